@@ -1,0 +1,1 @@
+// Where a full bucket is split: the prediction, the overlap's case, the midpoint rule, the clamp.
