@@ -30,11 +30,15 @@ pub midpoint-within : (x y : ℕ) (codes : List ℕ) → x < y → (x < midpoint
 unfolding midpoint mid
 midpoint-within x y codes h = brought-within x y h _
 
+-- r is the midpoint, and lies in its range
+abbrev pub Midway : ℕ → ℕ → List ℕ → ℕ → Type 0
+Midway x y codes r = (r ≡ midpoint x y codes) × ((x < r) × (r ≤ y))
+
 -- the midpoint by the numbers of the code's work
 pub midpoint-work : (x y l h m : ℕ) (codes : List ℕ) → x < y
     → Predicts (sum (map loadOf codes)) (slope (map loadOf codes)) l h
     → valueOf m ≡ mid (valueOf (x + 2949999)) (valueOf (y + 2949999)) (valueOf l) (valueOf h)
-    → (m - 2949999 ≡ midpoint x y codes) × ((x < m - 2949999) × (m - 2949999 ≤ y))
+    → Midway x y codes (m - 2949999)
 unfolding midpoint low high
 midpoint-work x y l h m codes b p e =
     let ex : valueOf (x + 2949999) ≡ loadOf x = D.same (x + 2949999) 3000000 x 50001 (omega arith) in

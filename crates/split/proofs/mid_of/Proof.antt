@@ -1,5 +1,6 @@
 -- `split::mid_of` meets its contract: its numbers stand 2,949,999 above the stored ones.
-use Rattle.split.proofs.Midpoint.{midpoint-work}
+use Prim.Native.Nat.{_-_}
+use Rattle.split.proofs.Midpoint.{Midway, midpoint-work}
 use native.Mathlib.Omega.{arith}
 use borrow.Author.Needs.{needs}
 use Rattle.split.proofs.mid_of.Statement.{statement}
@@ -17,14 +18,21 @@ add-mid-2 c = search needs
 mid-requires : tie.Need-mid-requires
 mid-requires c κs = search needs
 
+-- where `mid` has returned
+found : (c : tie.After-mid)
+    → Midway (c .before .before .args .x) (c .before .before .args .y) (c .before .before .args .loads) (c .mid .result - 2949999)
+found c =
+    let s = c .before .before in
+    midpoint-work _ _ _ _ (c .mid .result) (s .args .loads) (s .pre .0 .0) (c .before .predict .ensures) (c .mid .ensures)
+
 sub-result : tie.Need-sub-result
-sub-result c = omega (arith, midpoint-work _ _ _ _ (c .mid .result) (c .before .before .args .loads) (c .before .before .pre .0 .0) (c .before .predict .ensures) (c .mid .ensures))
+sub-result c = omega (arith, found c)
 
 cast-result : tie.Need-cast-result
-cast-result c = omega (arith, midpoint-work _ _ _ _ (c .mid .result) (c .before .before .args .loads) (c .before .before .pre .0 .0) (c .before .predict .ensures) (c .mid .ensures))
+cast-result c = omega (arith, found c)
 
 returns : tie.Need-returns
-returns c = midpoint-work _ _ _ _ (c .mid .result) (c .before .before .args .loads) (c .before .before .pre .0 .0) (c .before .predict .ensures) (c .mid .ensures)
+returns c = found c
 
 pub mid-of-spec : {M : Type 1} → statement M
 mid-of-spec =

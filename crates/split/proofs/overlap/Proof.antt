@@ -18,11 +18,27 @@ returns-3 c = simp (lt-offset 3000000, le-offset 3000000, c .before .before .if1
 
 returns-4 : tie.Need-returns-4
 unfolding overlap
-returns-4 c = simp (lt-offset 3000000, le-offset 3000000, c .before .before .before .if1 .left, c .before .before .if2 .left, c .before .if3 .left, c .if4 .taken)
+returns-4 c =
+    simp (
+      lt-offset 3000000,
+      le-offset 3000000,
+      c .before .before .before .if1 .left,
+      c .before .before .if2 .left,
+      c .before .if3 .left,
+      c .if4 .taken,
+    )
 
 returns-5 : tie.Need-returns-5
 unfolding overlap
-returns-5 c = simp (lt-offset 3000000, le-offset 3000000, c .before .before .before .if1 .left, c .before .before .if2 .left, c .before .if3 .left, c .if4 .left)
+returns-5 c =
+    simp (
+      lt-offset 3000000,
+      le-offset 3000000,
+      c .before .before .before .if1 .left,
+      c .before .before .if2 .left,
+      c .before .if3 .left,
+      c .if4 .left,
+    )
 
 pub overlap-spec : {M : Type 1} → statement M
 overlap-spec = tie.close (tie.spec returns returns-2 returns-3 returns-4 returns-5)

@@ -49,7 +49,13 @@ loop-again c =
     let ys = c .before .before .before .before .args .t1 in
     let n : length ys ≡ 13 = search needs in
     let y = c .before .before .before .before .pre i (c .before .before .loop-test .taken) in
-    omega (arith, y, total-step ys i (omega arith), moment-step ys i (omega arith), ap (λ (v : ℕ). i * v) (c .before .wide .ensures))
+    omega (
+      arith,
+      y,
+      total-step ys i (omega arith),
+      moment-step ys i (omega arith),
+      ap (λ (v : ℕ). i * v) (c .before .wide .ensures),
+    )
 
 fit-requires : tie.Need-fit-requires Inv-loop μ-loop
 fit-requires c κs = search needs

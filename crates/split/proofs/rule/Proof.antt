@@ -55,22 +55,56 @@ returns-2 c = simp (c .halfway2 .ensures, c .before .match .keys2, half-of 30000
 
 returns-3 : tie.Need-returns-3
 unfolding rule
-returns-3 c = simp (c .halfway3 .ensures, c .before .before .match .keys3, left-of 3000000, lt-ltb _ _ (c .before .if1 .taken), half-of 3000000)
+returns-3 c =
+    simp (
+      c .halfway3 .ensures,
+      c .before .before .match .keys3,
+      left-of 3000000,
+      lt-ltb _ _ (c .before .if1 .taken),
+      half-of 3000000,
+    )
 
 returns-4 : tie.Need-returns-4
 unfolding rule
-returns-4 c = simp (c .larger .ensures, c .before .halfway4 .ensures, c .before .before .before .match .keys3, left-of 3000000, le-ltb _ _ (c .before .before .if1 .left), half-of 3000000, max-of 3000000)
+returns-4 c =
+    simp (
+      c .larger .ensures,
+      c .before .halfway4 .ensures,
+      c .before .before .before .match .keys3,
+      left-of 3000000,
+      le-ltb _ _ (c .before .before .if1 .left),
+      half-of 3000000,
+      max-of 3000000,
+    )
 
 returns-5 : tie.Need-returns-5
 unfolding rule
-returns-5 c = simp (c .halfway5 .ensures, c .before .before .match .keys4, right-of 3000000, lt-ltb _ _ (c .before .if2 .taken), half-of 3000000)
+returns-5 c =
+    simp (
+      c .halfway5 .ensures,
+      c .before .before .match .keys4,
+      right-of 3000000,
+      lt-ltb _ _ (c .before .if2 .taken),
+      half-of 3000000,
+    )
 
 returns-6 : tie.Need-returns-6
 unfolding rule
-returns-6 c = simp (c .smaller .ensures, c .before .halfway6 .ensures, c .before .before .before .match .keys4, right-of 3000000, le-ltb _ _ (c .before .before .if2 .left), half-of 3000000, min-of 3000000)
+returns-6 c =
+    simp (
+      c .smaller .ensures,
+      c .before .halfway6 .ensures,
+      c .before .before .before .match .keys4,
+      right-of 3000000,
+      le-ltb _ _ (c .before .before .if2 .left),
+      half-of 3000000,
+      min-of 3000000,
+    )
 
 returns-7 : tie.Need-returns-7
-returns-7 c = let m = c .before .match .rest in rw (c .halfway7 .ensures, rule-rest 3000000 _ _ _ _ _ (m .0 .0 .0 .1) (m .0 .0 .1) (m .0 .1) (m .1))
+returns-7 c =
+    let m = c .before .match .rest in
+    rw (c .halfway7 .ensures, rule-rest 3000000 _ _ _ _ _ (m .0 .0 .0 .1) (m .0 .0 .1) (m .0 .1) (m .1))
 
 pub rule-spec : {M : Type 1} → statement M
 rule-spec =
