@@ -7,7 +7,7 @@ use native.Mathlib.Omega.{arith}
 use lib.IntN.{ℤ, pos, negsuc, subℕ}
 use Rattle.lift.specs.Limits.{stored, loadOf}
 use Rattle.lift.proofs.Differences as D
-use Rattle.lift.proofs.Stored.{stored-shifted}
+use Rattle.lift.proofs.Codes.{stored-shifted}
 use Rattle.split.specs.Split.{bring, mid, sum, slope, low, high, midpoint}
 use Rattle.split.specs.Work.{valueOf, Predicts}
 use Rattle.split.proofs.Offset.{Within, bring-within}
