@@ -1,0 +1,48 @@
+-- A midpoint lies in its bucket's range whatever the loads: every integer is a difference, so range and value stand above one offset.
+-- Assumes nothing.
+use mathlib.Core.Path.{_≡_, refl, sym, ap, _∙_}
+use mathlib.Core.List.{List, map}
+use Prim.Native.Nat.{ℕ, suc, _+_, _-_, _≤_, _<_}
+use native.Mathlib.Omega.{arith}
+use lib.IntN.{ℤ, pos, negsuc, subℕ}
+use Rattle.lift.specs.Limits.{stored, loadOf}
+use Rattle.lift.proofs.Differences as D
+use Rattle.lift.proofs.Codes.{stored-shifted}
+use Rattle.split.specs.Split.{bring, mid, sum, slope, low, high, midpoint}
+use Rattle.split.specs.Work.{valueOf, Predicts}
+use Rattle.split.proofs.Offset.{Within, bring-within}
+
+module _ (x y : ℕ) (h : x < y) where
+  shifted : (m : ℤ) (a b : ℕ) → m ≡ subℕ a b
+      → (x < stored (bring m (loadOf x) (loadOf y))) × (stored (bring m (loadOf x) (loadOf y)) ≤ y)
+  shifted m a b e =
+      let em : m ≡ subℕ (a + 50001) (50001 + b) = e ∙ D.same a b (a + 50001) (50001 + b) (omega arith) in
+      let ex : loadOf x ≡ subℕ (x + b) (50001 + b) = D.same x 50001 (x + b) (50001 + b) (omega arith) in
+      let ey : loadOf y ≡ subℕ (y + b) (50001 + b) = D.same y 50001 (y + b) (50001 + b) (omega arith) in
+      let w = bring-within (50001 + b) (a + 50001) (x + b) (y + b) (omega arith) in
+      rw (em, ex, ey, w .is, stored-shifted (w .number) b) (omega (arith, w .above, w .below))
+
+  brought-within : (m : ℤ) → (x < stored (bring m (loadOf x) (loadOf y))) × (stored (bring m (loadOf x) (loadOf y)) ≤ y)
+  brought-within (pos n) = shifted (pos n) n 0 (sym (D.is-pos n 0 n (omega arith)))
+  brought-within (negsuc n) = shifted (negsuc n) 0 (suc n) (sym (D.is-neg 0 (suc n) n (omega arith)))
+
+pub midpoint-within : (x y : ℕ) (codes : List ℕ) → x < y → (x < midpoint x y codes) × (midpoint x y codes ≤ y)
+unfolding midpoint mid
+midpoint-within x y codes h = brought-within x y h _
+
+-- r is the midpoint, and lies in its range
+abbrev pub Midway : ℕ → ℕ → List ℕ → ℕ → Type 0
+Midway x y codes r = (r ≡ midpoint x y codes) × ((x < r) × (r ≤ y))
+
+-- the midpoint by the numbers of the code's work
+pub midpoint-work : (x y l h m : ℕ) (codes : List ℕ) → x < y
+    → Predicts (sum (map loadOf codes)) (slope (map loadOf codes)) l h
+    → valueOf m ≡ mid (valueOf (x + 2949999)) (valueOf (y + 2949999)) (valueOf l) (valueOf h)
+    → Midway x y codes (m - 2949999)
+unfolding midpoint low high
+midpoint-work x y l h m codes b p e =
+    let ex : valueOf (x + 2949999) ≡ loadOf x = D.same (x + 2949999) 3000000 x 50001 (omega arith) in
+    let ey : valueOf (y + 2949999) ≡ loadOf y = D.same (y + 2949999) 3000000 y 50001 (omega arith) in
+    let em : m - 2949999 ≡ midpoint x y codes =
+    sym (stored-shifted m 2949999) ∙ ap stored (rw (ex, ey, p .low, p .high) at e) in
+    (em, rw em (midpoint-within x y codes b))
