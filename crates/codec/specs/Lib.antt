@@ -1,0 +1,2 @@
+pub mod Area
+pub mod Number
