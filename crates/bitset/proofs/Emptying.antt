@@ -30,37 +30,29 @@ next-at b d l z t =
     picked-first (has (b .words)) 0 d (319 - d) (λ q a u. z q (omega arith)) (rw s t) in
     ap (nextAmong b) (rw (n, s) at first)
 
--- words 0 to i - 1 are 0 and word i is not
-pub next-found : (b : Bits) (i : ℕ) → i < 5 → ((k : ℕ) → k < i → getD (b .words) k 0 ≡ 0)
-    → 0 < getD (b .words) i 0 → getD (b .words) i 0 < 2 ^ 64
-    → nextOf b ≡ record {
-      found = true;
-      at = 64 * i + trailingZeros 64 (getD (b .words) i 0);
-      rest = record { words = set (b .words) i (getD (b .words) i 0 - 2 ^ trailingZeros 64 (getD (b .words) i 0)) };
-    }
-next-found b i l z p h = go (trailingZeros 64 word) refl
+-- words 0 to i - 1 are 0 and word i is not: t is its count of trailing zeros, and v the power taken from it
+pub next-found : (b : Bits) (i t v : ℕ) → i < 5 → ((k : ℕ) → k < i → getD (b .words) k 0 ≡ 0)
+    → 0 < getD (b .words) i 0 → getD (b .words) i 0 < 2 ^ 64 → t ≡ trailingZeros 64 (getD (b .words) i 0) → v ≡ 2 ^ t
+    → nextOf b ≡ record { found = true; at = 64 * i + t; rest = record { words = set (b .words) i (getD (b .words) i 0 - v) } }
+next-found b i t v l z p h e s =
+    let w = lowest 64 word p h in
+    let u : t < 64 = omega (arith, w .below) in
+    let q : (64 * i + t) / 64 ≡ i = omega arith in
+    let r : (64 * i + t) % 64 ≡ t = omega arith in
+    let on : has (b .words) (64 * i + t) ≡ true = rw (q, r, e) (eq-eqb _ _ (w .is-set)) in
+    rw s (rw (q, r) at (next-at b (64 * i + t) (omega arith) before on))
   where
     word : ℕ
     word = getD (b .words) i 0
 
-    go : (t : ℕ) → trailingZeros 64 word ≡ t
-        → nextOf b ≡ record { found = true; at = 64 * i + t; rest = record { words = set (b .words) i (word - 2 ^ t) } }
-    go t e =
-        let w = lowest 64 word p h in
-        let u : t < 64 = omega (arith, w .below) in
-        let q : (64 * i + t) / 64 ≡ i = omega arith in
-        let r : (64 * i + t) % 64 ≡ t = omega arith in
-        let on : has (b .words) (64 * i + t) ≡ true = rw (q, r, ← e) (eq-eqb _ _ (w .is-set)) in
-        rw (q, r) at (next-at b (64 * i + t) (omega arith) before on)
+    before : (q : ℕ) → q < 64 * i + t → has (b .words) q ≡ false
+    before q l = inside (decLt (q / 64) i)
       where
-        before : (q : ℕ) → q < 64 * i + t → has (b .words) q ≡ false
-        before q l = inside (decLt (q / 64) i)
-          where
-            inside : Dec (q / 64 < i) → has (b .words) q ≡ false
-            inside (yes u) = rw (z (q / 64) u, bit-zero (q % 64))
-            inside (no f) =
-                let c : q / 64 ≡ i = omega (arith, trailing-le 64 word) in
-                rw (c, trailing-clear 64 word (q % 64) (omega (arith, trailing-le 64 word)))
+        inside : Dec (q / 64 < i) → has (b .words) q ≡ false
+        inside (yes u) = rw (z (q / 64) u, bit-zero (q % 64))
+        inside (no f) =
+            let c : q / 64 ≡ i = omega (arith, trailing-le 64 word) in
+            rw (c, trailing-clear 64 word (q % 64) (omega (arith, trailing-le 64 word)))
 
 pub next-none : (b : Bits) → ((k : ℕ) → k < 5 → getD (b .words) k 0 ≡ 0) → nextOf b ≡ record { found = false; at = 0; rest = b }
 unfolding nextOf members

@@ -3,7 +3,6 @@ use mathlib.Core.Path.{_≡_, sym}
 use Prim.Native.Nat.{ℕ, _-_, _≤_, _<_}
 use mir.Syntax.{w64}
 use mir.Val.{Fits}
-use lib.Count.{trailingZeros}
 use lib.ListN.{getD}
 use borrow.Author.Count.{below-more}
 use Rattle.bitset.proofs.Emptying.{next-found, next-none}
@@ -52,10 +51,9 @@ returns : tie.Need-returns Inv-loop μ-loop
 returns c =
     let b = c .before .before .before .before .before .before .args .self in
     let i = c .before .before .before .before .loop .i in
-    let f : Fits w64 (getD (b .words) i 0) = search needs in
-    let at : c .before .lowest .result ≡ trailingZeros 64 (getD (b .words) i 0) = c .before .lowest .ensures .0 in (
-      rw (c .power .ensures, at)
-          (sym (next-found b i (omega arith) (c .before .before .before .before .loop .inv .1) (c .before .before .if1 .taken) (f .fits))),
+    let f : Fits w64 (getD (b .words) i 0) = search needs in (
+      sym (next-found b i _ _ (omega arith) (c .before .before .before .before .loop .inv .1) (c .before .before .if1 .taken) (f .fits)
+          (c .before .lowest .ensures .0) (c .power .ensures)),
       omega arith,
     )
 
