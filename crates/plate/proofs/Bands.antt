@@ -1,4 +1,5 @@
--- Every load lies in exactly one of the 21 bands, and its plate is that one: the search stops at the only band there is. Assumes nothing.
+-- Every load lies in exactly one of the 21 bands, and its plate is that one: the search stops at the only band there is.
+-- Assumes nothing.
 use mathlib.Core.Path.{_≡_, refl, sym, ap, ap₂, _∙_}
 use mathlib.Core.Bool.{Bool, true, false, cond, _&&_}
 use Prim.Native.Nat.{ℕ, zero, suc, _+_, _-_, _*_, _/_, _≤_, _<_}
@@ -45,7 +46,9 @@ module _ (p c k : ℕ) where
       ∙ D.le c k (500 * p + 250) 0 c (500 * p + 250 + k) (omega arith)
 
   band-tests : inBand p (subℕ c k)
-      ≡ cond (eqb p 0) (leb c (250 + k)) (cond (eqb p 20) (ltb (9750 + k) c) (ltb (500 * p + k) (c + 250) && leb c (500 * p + 250 + k)))
+      ≡ cond (eqb p 0) (leb c (250 + k))
+      (cond (eqb p 20) (ltb (9750 + k) c)
+      (ltb (500 * p + k) (c + 250) && leb c (500 * p + 250 + k)))
   unfolding inBand
   band-tests = rw (below-first, above-last, above-lower, below-upper)
 
@@ -83,14 +86,14 @@ of-band p c k l h = go (eqb p 0) refl (eqb p 20) refl (sym (band-tests p c k) �
         between (omega (arith, eqb-false p 0 e)) (omega (arith, eqb-false p 20 f)) (ltb-true _ _ (b .0)) (leb-true _ _ (b .1))
 
 -- the search stops at the only band there is
-first-is : (p c k : ℕ) → Band p c k → (m n : ℕ) → n ≤ p → n + m ≡ 20 → firstFrom m n (subℕ c k) ≡ p
+first-is : (p c k : ℕ) → Band p c k → (m n : ℕ) → n ≤ p → n + m ≡ 20 → p ≡ firstFrom m n (subℕ c k)
 unfolding firstFrom
 first-is p c k b zero n l e = omega (arith, band-small p c k b)
 first-is p c k b (suc m) n l e = go (inBand n (subℕ c k)) refl (first-is p c k b m (suc n))
   where
-    go : (t : Bool) → inBand n (subℕ c k) ≡ t → (suc n ≤ p → suc n + m ≡ 20 → firstFrom m (suc n) (subℕ c k) ≡ p)
-        → cond t n (firstFrom m (suc n) (subℕ c k)) ≡ p
-    go true h r = same-band n p c k (of-band n c k (omega arith) h) b
+    go : (t : Bool) → inBand n (subℕ c k) ≡ t → (suc n ≤ p → suc n + m ≡ 20 → p ≡ firstFrom m (suc n) (subℕ c k))
+        → p ≡ cond t n (firstFrom m (suc n) (subℕ c k))
+    go true h r = same-band p n c k b (of-band n c k (omega arith) h)
     go false h r = r (omega (arith, other)) (omega arith)
       where
         other : n ≡ p → ⊥
@@ -99,7 +102,7 @@ first-is p c k b (suc m) n l e = go (inBand n (subℕ c k)) refl (first-is p c k
             let z : _≡_ {A = ℕ} 0 1 = cc in
             omega arith
 
-pub plate-is : (p c k : ℕ) → Band p c k → plateOf (subℕ c k) ≡ p
+pub plate-is : (p c k : ℕ) → Band p c k → p ≡ plateOf (subℕ c k)
 unfolding plateOf
 plate-is p c k b = first-is p c k b 20 0 (omega arith) (omega arith)
 
@@ -126,12 +129,12 @@ found c k = go (leb c (250 + k)) refl (leb c (9750 + k)) refl
 pub plate-in-band : (load : ℤ) → inBand (plateOf load) load ≡ true
 plate-in-band = D.every (λ z. inBand (plateOf z) z ≡ true) (λ c k.
     let f = found c k in
-    rw (plate-is (f .plate) c k (f .band)) (in-band (f .plate) c k (f .band)))
+    rw (← plate-is (f .plate) c k (f .band)) (in-band (f .plate) c k (f .band)))
 
 pub plate-small : (load : ℤ) → plateOf load ≤ 20
 plate-small = D.every (λ z. plateOf z ≤ 20) (λ c k.
     let f = found c k in
-    rw (plate-is (f .plate) c k (f .band)) (band-small (f .plate) c k (f .band)))
+    rw (← plate-is (f .plate) c k (f .band)) (band-small (f .plate) c k (f .band)))
 
 pub plate-only : (n : ℕ) → n ≤ 20 → (load : ℤ) → inBand n load ≡ true → n ≡ plateOf load
-plate-only n l = D.every (λ z. inBand n z ≡ true → n ≡ plateOf z) (λ c k h. sym (plate-is n c k (of-band n c k l h)))
+plate-only n l = D.every (λ z. inBand n z ≡ true → n ≡ plateOf z) (λ c k h. plate-is n c k (of-band n c k l h))

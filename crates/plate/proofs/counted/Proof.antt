@@ -19,7 +19,7 @@ array-read-c : tie.Need-array-read-c
 array-read-c c = rw (c .plate-of-code .ensures) (omega (arith, plate-small (loadOf (c .before .args .code))))
 
 add-c : tie.Need-add-c
-add-c c = rw (c .plate-of-code .ensures) (record { fits = c .before .pre })
+add-c c = rw (c .plate-of-code .ensures) (omega (arith, c .before .pre))
 
 mul-c-2 : tie.Need-mul-c-2
 mul-c-2 c = search needs
