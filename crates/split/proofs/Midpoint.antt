@@ -12,19 +12,15 @@ use Rattle.split.specs.Split.{bring, mid, sum, slope, low, high, midpoin
 use Rattle.split.specs.Work.{valueOf, Predicts}
 use Rattle.split.proofs.Offset.{Within, bring-within}
 
-module _ (x y : ℕ) (h : x < y) where
-  shifted : (m : ℤ) (a b : ℕ) → m ≡ subℕ a b
-      → (x < stored (bring m (loadOf x) (loadOf y))) × (stored (bring m (loadOf x) (loadOf y)) ≤ y)
-  shifted m a b e =
-      let em : m ≡ subℕ (a + 50001) (50001 + b) = e ∙ D.same a b (a + 50001) (50001 + b) (omega arith) in
-      let ex : loadOf x ≡ subℕ (x + b) (50001 + b) = D.same x 50001 (x + b) (50001 + b) (omega arith) in
-      let ey : loadOf y ≡ subℕ (y + b) (50001 + b) = D.same y 50001 (y + b) (50001 + b) (omega arith) in
-      let w = bring-within (50001 + b) (a + 50001) (x + b) (y + b) (omega arith) in
-      rw (em, ex, ey, w .is, stored-shifted (w .number) b) (omega (arith, w .above, w .below))
-
-  brought-within : (m : ℤ) → (x < stored (bring m (loadOf x) (loadOf y))) × (stored (bring m (loadOf x) (loadOf y)) ≤ y)
-  brought-within (pos n) = shifted (pos n) n 0 (sym (D.is-pos n 0 n (omega arith)))
-  brought-within (negsuc n) = shifted (negsuc n) 0 (suc n) (sym (D.is-neg 0 (suc n) n (omega arith)))
+brought-within : (x y : ℕ) → x < y → (m : ℤ)
+    → (x < stored (bring m (loadOf x) (loadOf y))) × (stored (bring m (loadOf x) (loadOf y)) ≤ y)
+brought-within x y h =
+    D.every (λ m. (x < stored (bring m (loadOf x) (loadOf y))) × (stored (bring m (loadOf x) (loadOf y)) ≤ y)) (λ a b.
+    let em : subℕ a b ≡ subℕ (a + 50001) (50001 + b) = D.same a b (a + 50001) (50001 + b) (omega arith) in
+    let ex : loadOf x ≡ subℕ (x + b) (50001 + b) = D.same x 50001 (x + b) (50001 + b) (omega arith) in
+    let ey : loadOf y ≡ subℕ (y + b) (50001 + b) = D.same y 50001 (y + b) (50001 + b) (omega arith) in
+    let w = bring-within (50001 + b) (a + 50001) (x + b) (y + b) (omega arith) in
+    rw (em, ex, ey, w .is, stored-shifted (w .number) b) (omega (arith, w .above, w .below)))
 
 pub midpoint-within : (x y : ℕ) (codes : List ℕ) → x < y → (x < midpoint x y codes) × (midpoint x y codes ≤ y)
 unfolding midpoint mid

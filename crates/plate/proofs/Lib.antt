@@ -1,0 +1,2 @@
+pub mod Bands
+pub mod Lookups
