@@ -3,3 +3,5 @@ pub mod Descent
 pub mod Grown
 pub mod Insert
 pub mod Built
+pub mod Homes
+pub mod Search

@@ -1,6 +1,6 @@
 -- A search of a tree for the loads from k1 to k2 (document 01, "Search"), over its buckets in rising order of their numbers.
 -- Assumes nothing.
-use Prim.Native.Nat.{ℕ, zero, suc}
+use Prim.Native.Nat.{ℕ, zero, suc, _+_}
 use mathlib.Core.Bool.{Bool, true, false, cond, _&&_}
 use mathlib.Core.Option.{Option, none, some}
 use mathlib.Core.List.{List, [], _∷_, _++_}
@@ -38,3 +38,8 @@ findFrom k1 k2 t (suc n) i r =
 -- the positions found from the root on
 unfoldable pub find : ℕ → ℕ → List Bucket → List ℕ
 find k1 k2 t = findFrom k1 k2 t (length t) 0 (λ j. eqb j 0)
+
+-- how often p stands in a list
+unfoldable pub times : ℕ → List ℕ → ℕ
+times p [] = 0
+times p (q ∷ qs) = cond (eqb q p) 1 0 + times p qs
