@@ -5,3 +5,4 @@ pub mod Insert
 pub mod Built
 pub mod Homes
 pub mod Search
+pub mod Examples
