@@ -2,7 +2,7 @@
 use mathlib.Core.Path.{_≡_, refl, sym, ap, _∙_}
 use mathlib.Core.Bool.{Bool, true, false, cond}
 use Prim.Native.Nat.{ℕ, zero, suc, _+_, _-_, _*_, _/_, _%_, _≤_, _<_}
-use native.Mathlib.Nat.{mul-add-div, div-add-mod, mod-lt, lt-of-mul-lt-mul-left}
+use native.Mathlib.Nat.{mul-add-div, div-add-mod, div-eq-of-lt, mod-lt, lt-of-mul-lt-mul-left}
 use native.Mathlib.Omega.{arith}
 use lib.Dec.{ltb, leb}
 use lib.IntN.{ℤ, pos, negsuc, negℤ, subℕ, _+ℤ_, _-ℤ_, _*ℤ_}
@@ -128,3 +128,11 @@ down m a k h =
     by-sign a (m * k) (λ z. shrZ z m ≡ subℕ (a / m) k)
     (λ n p. sym (is-pos (a / m) k (n / m) (rw p (mul-add-div h k n))))
     (λ n p. sym (is-neg (a / m) k (n / m) (complement m k a n h p)))
+
+-- rounded up: (a − mk) / m = q − k, where mq is the first multiple of m from a on
+pub up : (m a k q c : ℕ) → a + c ≡ m * q → c < m → negℤ (shrZ (negℤ (subℕ a (m * k))) m) ≡ subℕ q k
+up m a k q c e l =
+    let h : 0 < m = omega arith in
+    let d : (m * k + c) / m ≡ k = mul-add-div h k c ∙ ap (λ (n : ℕ). k + n) (div-eq-of-lt l) ∙ omega arith in
+    let s : negℤ (subℕ a (m * k)) ≡ subℕ (m * k + c) (m * q) = neg a (m * k) ∙ same (m * k) a (m * k + c) (m * q) (omega arith) in
+    ap (λ z. negℤ (shrZ z m)) s ∙ ap negℤ (down m (m * k + c) q h ∙ ap (λ (n : ℕ). subℕ n q) d) ∙ neg k q

@@ -1,2 +1,3 @@
 pub mod Differences
-pub mod Stored
+pub mod Codes
+pub mod Records

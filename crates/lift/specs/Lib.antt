@@ -1,1 +1,2 @@
 pub mod Limits
+pub mod Record

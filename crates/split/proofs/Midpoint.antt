@@ -7,8 +7,9 @@ use native.Mathlib.Omega.{arith}
 use lib.IntN.{ℤ, pos, negsuc, subℕ}
 use Rattle.lift.specs.Limits.{stored, loadOf}
 use Rattle.lift.proofs.Differences as D
-use Rattle.lift.proofs.Stored.{stored-shifted}
-use Rattle.split.specs.Split.{bring, rule, overlap, mid, low, high, midpoint}
+use Rattle.lift.proofs.Codes.{stored-shifted}
+use Rattle.split.specs.Split.{bring, mid, sum, slope, low, high, midpoint}
+use Rattle.split.specs.Work.{valueOf, Predicts}
 use Rattle.split.proofs.Offset.{Within, bring-within}
 
 module _ (x y : ℕ) (h : x < y) where
@@ -28,3 +29,20 @@ module _ (x y : ℕ) (h : x < y) where
 pub midpoint-within : (x y : ℕ) (codes : List ℕ) → x < y → (x < midpoint x y codes) × (midpoint x y codes ≤ y)
 unfolding midpoint mid
 midpoint-within x y codes h = brought-within x y h _
+
+-- r is the midpoint, and lies in its range
+abbrev pub Midway : ℕ → ℕ → List ℕ → ℕ → Type 0
+Midway x y codes r = (r ≡ midpoint x y codes) × ((x < r) × (r ≤ y))
+
+-- the midpoint by the numbers of the code's work
+pub midpoint-work : (x y l h m : ℕ) (codes : List ℕ) → x < y
+    → Predicts (sum (map loadOf codes)) (slope (map loadOf codes)) l h
+    → valueOf m ≡ mid (valueOf (x + 2949999)) (valueOf (y + 2949999)) (valueOf l) (valueOf h)
+    → Midway x y codes (m - 2949999)
+unfolding midpoint low high
+midpoint-work x y l h m codes b p e =
+    let ex : valueOf (x + 2949999) ≡ loadOf x = D.same (x + 2949999) 3000000 x 50001 (omega arith) in
+    let ey : valueOf (y + 2949999) ≡ loadOf y = D.same (y + 2949999) 3000000 y 50001 (omega arith) in
+    let em : m - 2949999 ≡ midpoint x y codes =
+    sym (stored-shifted m 2949999) ∙ ap stored (rw (ex, ey, p .low, p .high) at e) in
+    (em, rw em (midpoint-within x y codes b))

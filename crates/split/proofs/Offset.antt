@@ -2,14 +2,14 @@
 -- Assumes nothing.
 use mathlib.Core.Path.{_≡_, refl, sym, ap, ap₂, _∙_}
 use mathlib.Core.Bool.{Bool, true, false, cond}
-use Prim.Native.Nat.{ℕ, _+_, _-_, _*_, _/_, _≤_, _<_, min, max}
+use Prim.Native.Nat.{ℕ, zero, suc, _+_, _-_, _*_, _/_, _≤_, _<_, min, max}
 use native.Mathlib.Omega.{arith}
 use lib.Dec.{ltb, leb}
 use lib.IntN.{ℤ, pos, subℕ, _+ℤ_, _-ℤ_}
 use lib.Signed.{ltZ, leZ, shrZ}
 use borrow.Author.Tests.{leb-true, leb-false}
 use Rattle.lift.proofs.Differences as D
-use Rattle.split.specs.Split.{minZ, maxZ, halfway, twice, bring}
+use Rattle.split.specs.Split.{minZ, maxZ, halfway, twice, rule, bring}
 
 min-cond : (a b : ℕ) → min a b ≡ cond (leb a b) a b
 min-cond a b = go (leb a b) refl
@@ -69,14 +69,27 @@ module _ (k : ℕ) where
   pub right-of : (y l h : ℕ) → ltZ (of h -ℤ of l) (twice (of y -ℤ of l)) ≡ ltb (h + l) (y + y)
   right-of y l h = ap₂ ltZ (D.sub h k l k) (twice-of y l) ∙ D.lt (h + k) (k + l) (y + y) (l + l) (h + l) (y + y) (omega arith)
 
+  -- a case number that is none of 0 to 3
+  pub rule-rest : (n x y l h : ℕ) → (n ≡ 0 → ⊥) → (n ≡ 1 → ⊥) → (n ≡ 2 → ⊥) → (n ≡ 3 → ⊥)
+      → rule n (of x) (of y) (of l) (of h) ≡ of ((x + y) / 2)
+  unfolding rule
+  rule-rest zero x y l h p q r s = absurd (p refl)
+  rule-rest (suc zero) x y l h p q r s = absurd (q refl)
+  rule-rest (suc (suc zero)) x y l h p q r s = absurd (r refl)
+  rule-rest (suc (suc (suc zero))) x y l h p q r s = absurd (s refl)
+  rule-rest (suc (suc (suc (suc n)))) x y l h p q r s = half-of x y
+
   -- what is brought into the range (x, y]
   pub bring-none : (m : ℤ) (x y : ℕ) → leb y (x + 1) ≡ true → bring m (of x) (of y) ≡ of y
   unfolding bring
   bring-none m x y e = simp (up-of, D.le-offset k, e)
 
-  pub bring-some : (m x y : ℕ) → 0 < y → leb y (x + 1) ≡ false → bring (of m) (of x) (of y) ≡ of (min (max m (x + 1)) (y - 1))
+  pub bring-some : (m x y : ℕ) → leb y (x + 1) ≡ false → bring (of m) (of x) (of y) ≡ of (min (max m (x + 1)) (y - 1))
   unfolding bring
-  bring-some m x y p e = simp (up-of, down-of, D.le-offset k, min-cond, max-cond, cond-of, e)
+  bring-some m x y e =
+      let b = leb-false y (x + 1) e in
+      let p : 0 < y = omega arith in
+      simp (up-of, down-of, D.le-offset k, min-cond, max-cond, cond-of, e)
 
   pub bring-within : (m x y : ℕ) → x < y → Within k x y (bring (of m) (of x) (of y))
   bring-within m x y h = go (leb y (x + 1)) refl
@@ -85,4 +98,4 @@ module _ (k : ℕ) where
       go true e = record { number = y; is = bring-none (of m) x y e; above = h; below = omega arith }
       go false e =
           let b = leb-false y (x + 1) e in
-          record { number = min (max m (x + 1)) (y - 1); is = bring-some m x y (omega arith) e; above = omega arith; below = omega arith }
+          record { number = min (max m (x + 1)) (y - 1); is = bring-some m x y e; above = omega arith; below = omega arith }

@@ -1,1 +1,2 @@
 pub mod Split
+pub mod Work
