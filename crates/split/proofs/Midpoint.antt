@@ -1,4 +1,4 @@
--- A midpoint lies in its bucket's range whatever the loads: every integer is a difference, so range and value stand above one offset.
+-- A midpoint lies in its bucket's range whatever the loads: every integer is a difference, so all stand above one offset.
 -- Assumes nothing.
 use mathlib.Core.Path.{_≡_, refl, sym, ap, _∙_}
 use mathlib.Core.List.{List, map}
