@@ -2,15 +2,18 @@
 -- Each is stated once, over the place and the width; the idea is to compare byte by byte. Assumes nothing.
 use mathlib.Core.Path.{_≡_, refl, sym, ap, subst, _∙_}
 use mathlib.Core.Logic.{_⊎_, inl, inr, ⊎-elim}
+use mathlib.Core.Bool.{Bool, true, false, _&&_}
 use mathlib.Core.List.{List, [], _∷_, _++_, append-assoc}
 use Prim.Native.Nat.{ℕ, zero, suc, _+_, _-_, _*_, _/_, _%_, _≤_, _<_, min}
 use native.Mathlib.Nat.{div-lt-iff-lt-mul, div-add-mod', mod-lt}
 use native.Mathlib.Decide.{decLt, decLe}
 use native.Mathlib.Omega.{arith}
-use lib.ListN.{length, take, drop, getD, length-append, length-take, length-drop, length-replicate, getD-replicate}
+use lib.ListN.{length, take, drop, getD, length-append, length-take, length-drop, replicate, length-replicate, getD-replicate}
 use lib.ListN.{List·getD-append}
 use lib.Seq.{length-take-le, drop-drop, take-all, take-add, take-at, drop-at, getD-take, getD-drop, getD-append-add, ext-getD}
-use Rattle.codec.specs.Area.{part, splice, repeated}
+use borrow.Author.Tests.{eqb-true}
+use lib.Dec.{eqb}
+use Rattle.codec.specs.Area.{part, splice, repeated, allOnes}
 
 -- ---- a part
 
@@ -63,6 +66,61 @@ agree-at-parts s t w n p ls lt e = ext-getD 0 s t (ls ∙ sym lt) (λ i h. byte 
         ap (λ (j : ℕ). getD s j 0) (sym d) ∙ sym (getD-part s (i / w * w) w (i % w) r)
         ∙ ap (λ (l : List ℕ). getD l (i % w) 0) (e (i / w) q)
         ∙ getD-part t (i / w * w) w (i % w) r ∙ ap (λ (j : ℕ). getD t j 0) d
+
+-- a part of two areas side by side, within the first and within the second
+pub part-append-left : (p q : List ℕ) (at n : ℕ) → at + n ≤ length p → part (p ++ q) at n ≡ part p at n
+part-append-left p q at n h =
+    let l = length-append p q in
+    parts-equal (p ++ q) p at at n (omega arith) h (λ i j. List·getD-append p q 0 (at + i) (omega arith))
+
+pub part-append-right : (p q : List ℕ) (at to n : ℕ) → length p + at ≡ to → at + n ≤ length q → part (p ++ q) to n ≡ part q at n
+part-append-right p q at to n e h =
+    let l = length-append p q in
+    parts-equal (p ++ q) q to at n (omega arith) h (λ i j.
+    let k : to + i ≡ length p + (at + i) = omega arith in
+    ap (λ (m : ℕ). getD (p ++ q) m 0) k ∙ getD-append-add p q (at + i) 0)
+
+-- the part of a slice from a to e
+pub part-from : (s : List ℕ) (a e n : ℕ) → e ≡ a + n → take (e - a) (drop a s) ≡ part s a n
+unfolding part
+part-from s a e n h =
+    let d : e - a ≡ n = omega arith in
+    rw d
+
+-- ---- bytes of one value
+
+pub length-repeated : (n v : ℕ) → length (repeated n v) ≡ n
+unfolding repeated
+length-repeated n v = length-replicate n v
+
+pub getD-repeated : (n v i : ℕ) → i < n → getD (repeated n v) i 0 ≡ v
+unfolding repeated
+getD-repeated n v i h = getD-replicate n i v 0 h
+
+pub part-repeated : (n v at m : ℕ) → at + m ≤ n → part (repeated n v) at m ≡ repeated m v
+part-repeated n v at m h =
+    let l = length-repeated n v in
+    let k = length-repeated m v in
+    parts-equal (repeated n v) (repeated m v) at 0 m (omega arith) (omega arith) (λ i j.
+    getD-repeated n v (at + i) (omega arith) ∙ sym (getD-repeated m v (0 + i) (omega arith))) ∙ part-all (repeated m v) m k
+
+-- ---- all 255
+
+pub ones-repeated : (n : ℕ) → allOnes (repeated n 255) ≡ true
+unfolding repeated allOnes
+ones-repeated zero = refl
+ones-repeated (suc n) = ones-repeated n
+
+-- an area that is all 255 is that many bytes of 255
+pub repeated-ones : (s : List ℕ) → allOnes s ≡ true → s ≡ repeated (length s) 255
+unfolding repeated allOnes
+repeated-ones [] e = refl
+repeated-ones (b ∷ s) e = go (eqb b 255) refl e (repeated-ones s)
+  where
+    go : (t : Bool) → eqb b 255 ≡ t → (t && allOnes s) ≡ true → (allOnes s ≡ true → s ≡ replicate (length s) 255)
+        → b ∷ s ≡ 255 ∷ replicate (length s) 255
+    go true q r ih = let z : b ≡ 255 = eqb-true b 255 q in rw (z, ← ih r)
+    go false q r ih = cc
 
 -- ---- a splice
 

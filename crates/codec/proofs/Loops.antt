@@ -7,7 +7,7 @@ use native.Mathlib.Nat.{pow-suc, pow-le-pow-right, lt-of-lt-of-le}
 use native.Mathlib.Numerals.{add-one}
 use native.Mathlib.Omega.{arith}
 use borrow.Author.Tests.{eq-eqb, ne-eqb}
-use lib.ListN.{length, take, drop, getD, set, replicate, length-replicate}
+use lib.ListN.{length, take, drop, getD, set}
 use lib.Seq.{sets, sets-eq, drop-cons, paste, take-all}
 use Rattle.codec.specs.Area.{part, splice, repeated, allOnes}
 use Rattle.codec.specs.Number.{le, bytes, numberAt}
@@ -61,10 +61,6 @@ put-step s to (suc k) rest h =
 pub sets-done : (s : List ℕ) (at n : ℕ) (p : List ℕ) → length p ≡ n → at + n ≤ length s → sets s at p ≡ splice s at p
 unfolding splice
 sets-done s at n p l h = sets-eq p s at (omega arith)
-
-pub length-repeated : (n v : ℕ) → length (repeated n v) ≡ n
-unfolding repeated
-length-repeated n v = length-replicate n v
 
 pub fill-step : (s : List ℕ) (to left v : ℕ) → 0 < left
     → sets (set s to v) (to + 1) (repeated (left - 1) v) ≡ sets s to (repeated left v)

@@ -6,7 +6,8 @@ use borrow.Author.Needs.{needs}
 use lib.ListN.{length, length-set}
 use lib.Seq.{sets}
 use Rattle.codec.specs.Area.{repeated}
-use Rattle.codec.proofs.Loops.{fill-step, sets-done, length-repeated}
+use Rattle.codec.proofs.Loops.{fill-step, sets-done}
+use Rattle.codec.proofs.Areas.{length-repeated}
 use Rattle.codec.proofs.fill.Statement.{statement}
 use Rattle.codec.proofs.fill.Tie as tie
 

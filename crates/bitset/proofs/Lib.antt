@@ -1,0 +1,5 @@
+pub mod Digits
+pub mod Picked
+pub mod Set
+pub mod Counting
+pub mod Emptying
