@@ -1,12 +1,12 @@
 -- The paper's midpoint rules on naturals that stand above their integers by one offset k: it drops out of every test and sum.
 -- Assumes nothing.
-use mathlib.Core.Path.{_≡_, refl, sym, ap, ap₂, _∙_}
+use mathlib.Core.Path.{_≡_, refl, ap, ap₂, _∙_}
 use mathlib.Core.Bool.{Bool, true, false, cond}
 use Prim.Native.Nat.{ℕ, zero, suc, _+_, _-_, _*_, _/_, _≤_, _<_, min, max}
 use native.Mathlib.Omega.{arith}
 use lib.Dec.{ltb, leb}
 use lib.IntN.{ℤ, pos, subℕ, _+ℤ_, _-ℤ_}
-use lib.Signed.{ltZ, leZ, shrZ}
+use lib.Signed.{ltZ, shrZ}
 use borrow.Author.Tests.{leb-true, leb-false}
 use Rattle.lift.proofs.Differences as D
 use Rattle.split.specs.Split.{minZ, maxZ, halfway, twice, rule, bring}

@@ -1,6 +1,6 @@
 -- The paper's worked examples, "Proved together as a table with a single theorem": every definition computes. Assumes nothing.
 use mathlib.Core.Path.{_≡_, refl}
-use mathlib.Core.List.{List, map}
+use mathlib.Core.List.{map}
 use lib.Count.{trailingZeros}
 use lib.IntN.{ℤ}
 use Rattle.lift.specs.Limits.{stored}

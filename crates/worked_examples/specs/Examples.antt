@@ -1,5 +1,5 @@
--- The worked examples of document 01 ("Proved together as a table with a single theorem"): what the definitions that the contracts
--- cite give, beside the paper's figure. Assumes nothing.
+-- The worked examples of document 01 ("Proved together as a table with a single theorem"): what the definitions that the
+-- contracts cite give, beside the paper's figure. Assumes nothing.
 use mathlib.Core.List.{List, [], _∷_, map}
 use Prim.Native.Nat.{ℕ}
 use lib.IntN.{ℤ, pos, negℤ}
