@@ -1,4 +1,5 @@
--- A load and the number it is stored as determine each other, and compare alike: the offset drops out of every difference. Assumes nothing.
+-- A load and the number it is stored as determine each other and compare alike: the offset drops out of every difference.
+-- Assumes nothing.
 use mathlib.Core.Path.{_≡_, refl, sym, ap, ap₂, _∙_}
 use mathlib.Core.Bool.{Bool, true, false, _&&_}
 use Prim.Native.Nat.{ℕ, suc, _+_, _-_, _^_, _≤_, _<_}
@@ -74,4 +75,5 @@ pub sum-read : (z : ℤ) → SFits w32 z → Stored z → toZ w32 (ofZ w32 (toZ 
 sum-read z f s = rw (toZ-ofZ w32 z f, s .sum) (toZ-pos w32 (stored z) (omega (arith, s .high)))
 
 pub load-fits : (code : ℕ) → code < 2 ^ 31 → SFits w32 (loadOf code)
-load-fits code h = D.by-sign code 50001 (λ z. SFits w32 z) (λ m p. record { sfits = omega arith }) (λ m p. record { sfits = omega arith })
+load-fits code h =
+    D.by-sign code 50001 (λ z. SFits w32 z) (λ m p. record { sfits = omega arith }) (λ m p. record { sfits = omega arith })

@@ -1,5 +1,5 @@
 -- The two answers of the lookup: a load past its limit is refused, any other has the plate of its stored load. Assumes nothing.
-use mathlib.Core.Path.{_≡_, sym, ap, _∙_}
+use mathlib.Core.Path.{_≡_}
 use mathlib.Core.Bool.{true, false}
 use Prim.Native.Nat.{ℕ}
 use lib.IntN.{ℤ}

@@ -1,6 +1,6 @@
 -- Plates (document 01, "Plates"): "0 up to 250; n for 500n−250 < load ≤ 500n+250; 20 above 9,750." Assumes nothing.
 use mathlib.Core.Bool.{Bool, cond, _&&_}
-use mathlib.Core.List.{List}
+use mathlib.Core.List.{List, [], _∷_}
 use Prim.Native.Nat.{ℕ, zero, suc, _+_, _*_}
 use lib.Dec.{eqb}
 use lib.IntN.{ℤ, pos, subℕ}
@@ -29,7 +29,21 @@ plateOf load = firstFrom 20 0 load
 unfoldable pub lookup : ℤ → Lookup
 lookup load = cond (loadOk load) (record { number = 0; plate = plateOf load }) (record { number = 5; plate = 0 })
 
--- "A tally is 21 counts": of no lift, and of one lift more with this stored load
+-- how many of these stored loads have plate n
+unfoldable pub countAt : ℕ → List ℕ → ℕ
+countAt n [] = 0
+countAt n (code ∷ codes) = cond (eqb (plateOf (loadOf code)) n) (suc (countAt n codes)) (countAt n codes)
+
+-- the counts of k plates from n on
+unfoldable pub countsFrom : ℕ → ℕ → List ℕ → List ℕ
+countsFrom zero n codes = []
+countsFrom (suc k) n codes = countAt n codes ∷ countsFrom k (suc n) codes
+
+-- "A tally is 21 counts": of these stored loads, by plate
+unfoldable pub countsOf : List ℕ → List ℕ
+countsOf codes = countsFrom 21 0 codes
+
+-- the counts of no lift, and those with one lift more at the plate of its stored load
 abbrev pub noCounts : List ℕ
 noCounts = replicate 21 0
 

@@ -1,6 +1,6 @@
 // The plate of a load, and the counts of a tally by plate (document 01, "Plates").
 ghost use mathlib.Core.Path.{_≡_};
-ghost use Prim.Native.Nat.{_+_, _^_, _≤_, _<_};
+ghost use Prim.Native.Nat.{_+_, _^_, _<_};
 ghost use lib.ListN.{getD};
 ghost use Rattle.lift.specs.Limits.{loadOf};
 ghost use Rattle.plate.specs.Plate.{plateOf, lookup, noCounts, countedIn};

@@ -1,16 +1,16 @@
--- A midpoint lies in its bucket's range whatever the loads: every integer is a difference, so range and value stand above one offset.
+-- A midpoint lies in its bucket's range whatever the loads: every integer is a difference, so all stand above one offset.
 -- Assumes nothing.
-use mathlib.Core.Path.{_≡_, refl, sym, ap, _∙_}
+use mathlib.Core.Path.{_≡_, sym, ap, _∙_}
 use mathlib.Core.List.{List, map}
-use Prim.Native.Nat.{ℕ, suc, _+_, _-_, _≤_, _<_}
+use Prim.Native.Nat.{ℕ, _+_, _-_, _≤_, _<_}
 use native.Mathlib.Omega.{arith}
-use lib.IntN.{ℤ, pos, negsuc, subℕ}
+use lib.IntN.{ℤ, subℕ}
 use Rattle.lift.specs.Limits.{stored, loadOf}
 use Rattle.lift.proofs.Differences as D
 use Rattle.lift.proofs.Codes.{stored-shifted}
 use Rattle.split.specs.Split.{bring, mid, sum, slope, low, high, midpoint}
 use Rattle.split.specs.Work.{valueOf, Predicts}
-use Rattle.split.proofs.Offset.{Within, bring-within}
+use Rattle.split.proofs.Offset.{bring-within}
 
 brought-within : (x y : ℕ) → x < y → (m : ℤ)
     → (x < stored (bring m (loadOf x) (loadOf y))) × (stored (bring m (loadOf x) (loadOf y)) ≤ y)
