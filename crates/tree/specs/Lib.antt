@@ -1,2 +1,4 @@
 pub mod Rules
 pub mod Search
+pub mod Bytes
+pub mod Reading
