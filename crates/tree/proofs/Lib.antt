@@ -9,3 +9,4 @@ pub mod Examples
 pub mod Places
 pub mod Coded
 pub mod Read
+pub mod Swept

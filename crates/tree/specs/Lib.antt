@@ -2,3 +2,4 @@ pub mod Rules
 pub mod Search
 pub mod Bytes
 pub mod Reading
+pub mod Sweep
