@@ -10,3 +10,4 @@ pub mod Places
 pub mod Coded
 pub mod Read
 pub mod Swept
+pub mod Planned

@@ -3,3 +3,5 @@ pub mod Search
 pub mod Bytes
 pub mod Reading
 pub mod Sweep
+pub mod Plan
+pub mod Writes
