@@ -72,35 +72,35 @@ no-position : le (part (repeated 8 255) 4 2) ≡ 65535
 unfolding part repeated le
 no-position = refl
 
-module _ (b : Bucket) (f : Fits b) where
-  -- n bytes at `off` of entry i
-  within-entry : (i off n to : ℕ) → i < 13 → off + n ≤ 8 → 24 + 8 * i + off ≡ to
-      → part (bucketBytes b) to n ≡ part (part (places 8 entryBytes 13 (b .entries)) (8 * i) 8) off n
-  unfolding bucketBytes
-  within-entry i off n to h k e =
-      let l = length-bucket b in
-      let m = length-places 8 entryBytes length-entry 13 (b .entries) in
-      let g = length-head b in
-      ap (λ (j : ℕ). part (bucketBytes b) j n) (sym e) ∙ sym (part-part (bucketBytes b) (24 + 8 * i) 8 off n (omega arith) k)
-      ∙ ap (λ (p : List ℕ). part p off n)
-      (part-append-right (headBytes b) (places 8 entryBytes 13 (b .entries)) (8 * i) (24 + 8 * i) 8 (omega arith) (omega arith))
+-- n bytes at `off` of entry i
+pub within-entry : (b : Bucket) (i off n to : ℕ) → i < 13 → off + n ≤ 8 → 24 + 8 * i + off ≡ to
+    → part (bucketBytes b) to n ≡ part (part (places 8 entryBytes 13 (b .entries)) (8 * i) 8) off n
+unfolding bucketBytes
+within-entry b i off n to h k e =
+    let l = length-bucket b in
+    let m = length-places 8 entryBytes length-entry 13 (b .entries) in
+    let g = length-head b in
+    ap (λ (j : ℕ). part (bucketBytes b) j n) (sym e) ∙ sym (part-part (bucketBytes b) (24 + 8 * i) 8 off n (omega arith) k)
+    ∙ ap (λ (p : List ℕ). part p off n)
+    (part-append-right (headBytes b) (places 8 entryBytes 13 (b .entries)) (8 * i) (24 + 8 * i) 8 (omega arith) (omega arith))
 
+module _ (b : Bucket) (f : Fits b) where
   -- an entry that is used, and one that is not
   entry-used : (i : ℕ) (d : Entry) → i < length (b .entries) → entryIn (bucketBytes b) i ≡ getD (b .entries) i d
   entry-used i d h =
       let r = f .room in
       let u = place-used 8 entryBytes length-entry 13 (b .entries) d i h (omega arith) in
       let p : numberAt (bucketBytes b) (24 + 8 * i) 4 ≡ getD (b .entries) i d .load =
-      ap le (within-entry i 0 4 (24 + 8 * i) (omega arith) (omega arith) (omega arith) ∙ ap (λ (p : List ℕ). part p 0 4) u)
+      ap le (within-entry b i 0 4 (24 + 8 * i) (omega arith) (omega arith) (omega arith) ∙ ap (λ (p : List ℕ). part p 0 4) u)
       ∙ load-in (getD (b .entries) i d) (f .loads i d h) in
       let q : numberAt (bucketBytes b) (28 + 8 * i) 2 ≡ getD (b .entries) i d .position =
-      ap le (within-entry i 4 2 (28 + 8 * i) (omega arith) (omega arith) (omega arith) ∙ ap (λ (p : List ℕ). part p 4 2) u)
+      ap le (within-entry b i 4 2 (28 + 8 * i) (omega arith) (omega arith) (omega arith) ∙ ap (λ (p : List ℕ). part p 4 2) u)
       ∙ position-in (getD (b .entries) i d) (f .positions i d h) in
       ap₂ (λ (l p : ℕ). record { load = l; position = p }) p q
 
   entry-free : (i : ℕ) → length (b .entries) ≤ i → i < 13 → numberAt (bucketBytes b) (28 + 8 * i) 2 ≡ 65535
   entry-free i h k =
-      ap le (within-entry i 4 2 (28 + 8 * i) k (omega arith) (omega arith)
+      ap le (within-entry b i 4 2 (28 + 8 * i) k (omega arith) (omega arith)
       ∙ ap (λ (p : List ℕ). part p 4 2) (place-free 8 entryBytes length-entry 13 (b .entries) i h k))
       ∙ no-position
 

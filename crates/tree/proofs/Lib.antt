@@ -11,3 +11,4 @@ pub mod Coded
 pub mod Read
 pub mod Swept
 pub mod Planned
+pub mod Fields
