@@ -6,3 +6,9 @@ pub mod Built
 pub mod Homes
 pub mod Search
 pub mod Examples
+pub mod Places
+pub mod Coded
+pub mod Read
+pub mod Swept
+pub mod Planned
+pub mod Fields
