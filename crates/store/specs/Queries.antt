@@ -5,9 +5,9 @@ use mathlib.Core.List.{List}
 use Prim.Native.Nat.{ℕ}
 use lib.Dec.{eqb, ltb}
 use lib.IntN.{ℤ, pos, negsuc}
-use lib.ListN.{replicate}
 use lib.Signed.{ltZ}
 use Rattle.lift.specs.Limits.{timeOk, loadOk, stored}
+use Rattle.plate.specs.Plate.{noCounts}
 use Rattle.walk.specs.declared.Log.{Log}
 use Rattle.walk.specs.declared.Query.{Query}
 use Rattle.search.specs.Found.{foundRows}
@@ -55,4 +55,4 @@ tallyOutcome w slots t1 t2 =
     let n = searchGround w slots t1 t2 (negsuc 49999) (pos 100000) in
     cond (eqb n 0)
     (tallyAnswer (foundRows (w .nand) (w .nor) (w .state .page) (logOf (w .state) slots) (queryOf t1 t2 (negsuc 49999) (pos 100000))))
-    (record { number = n; counts = replicate 21 0 })
+    (record { number = n; counts = noCounts })
