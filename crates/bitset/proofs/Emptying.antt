@@ -2,17 +2,16 @@
 use mathlib.Core.Path.{_≡_, refl, sym, ap, _∙_}
 use mathlib.Core.Bool.{Bool, true, false, cond, not, _&&_}
 use mathlib.Core.List.{List, [], _∷_}
-use Prim.Native.Nat.{ℕ, zero, suc, _+_, _-_, _*_, _/_, _%_, _^_, _≤_, _<_}
+use Prim.Native.Nat.{ℕ, zero, suc, _+_, _-_, _*_, _/_, _%_, _^_, _<_}
 use native.Mathlib.Decide.{decLt}
 use native.Mathlib.Omega.{arith}
 use lib.Count.{trailingZeros, trailing-le}
 use lib.Dec.{eqb}
-use lib.ListN.{length, getD, set}
+use lib.ListN.{getD, set}
 use borrow.Author.Tests.{eq-eqb, ne-eqb}
-use Rattle.bitset.specs.Set.{bit, has, without, picked, members}
+use Rattle.bitset.specs.Set.{has, without, picked, members}
 use Rattle.bitset.specs.Emptying.{nextAmong, nextOf}
 use Rattle.bitset.specs.declared.Bits.{Bits}
-use Rattle.bitset.specs.declared.Next.{Next}
 use Rattle.bitset.proofs.Digits.{bit-zero, trailing-clear, lowest}
 use Rattle.bitset.proofs.Picked.{picked-same, picked-none, picked-first}
 use Rattle.bitset.proofs.Set.{has-without, members-within}
