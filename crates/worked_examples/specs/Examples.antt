@@ -1,9 +1,10 @@
 -- The worked examples of document 01 ("Proved together as a table with a single theorem"): what the definitions that the
 -- contracts cite give, beside the paper's figure. Assumes nothing.
 use mathlib.Core.List.{List, [], _∷_, map}
-use Prim.Native.Nat.{ℕ}
+use Prim.Native.Nat.{ℕ, _-_}
 use lib.IntN.{ℤ, pos, negℤ}
 use lib.ListN.{replicate}
+use Rattle.bloom.specs.Bloom.{bloomBit}
 use Rattle.lift.specs.Limits.{stored, loadOf}
 use Rattle.plate.specs.Plate.{plateOf}
 use Rattle.skiplist.specs.Skip.{levelOf}
@@ -11,6 +12,10 @@ use Rattle.split.specs.Split.{mid, low, high, midpoint}
 
 abbrev minus : ℕ → ℤ
 minus n = negℤ (pos n)
+
+-- one of the three bits of a load; u = load + 50,000 is one less than the load as stored
+abbrev pub bitOf : ℕ → ℤ → ℕ
+bitOf which load = bloomBit which (stored load - 1)
 
 -- "loads 500, 510 .. 620", and "thirteen of 500"
 abbrev pub rising : List ℤ
@@ -38,6 +43,9 @@ examples l h =
     ∷ (pos (levelOf 2), pos 2)
     ∷ (pos (levelOf 8), pos 4)
     ∷ (pos (levelOf 16), pos 4)
+    ∷ (pos (bitOf 0 (minus 49999)), pos 632)
+    ∷ (pos (bitOf 1 (minus 49999)), pos 535)
+    ∷ (pos (bitOf 2 (minus 49999)), pos 778)
     ∷ (low rising, pos 630)
     ∷ (high rising, pos 880)
     ∷ (rootMid rising, pos 755)
