@@ -67,6 +67,19 @@ agree-at-parts s t w n p ls lt e = ext-getD 0 s t (ls ∙ sym lt) (λ i h. byte 
         ∙ ap (λ (l : List ℕ). getD l (i % w) 0) (e (i / w) q)
         ∙ getD-part t (i / w * w) w (i % w) r ∙ ap (λ (j : ℕ). getD t j 0) d
 
+-- a part of two areas side by side, within the first and within the second
+pub part-append-left : (p q : List ℕ) (at n : ℕ) → at + n ≤ length p → part (p ++ q) at n ≡ part p at n
+part-append-left p q at n h =
+    let l = length-append p q in
+    parts-equal (p ++ q) p at at n (omega arith) h (λ i j. List·getD-append p q 0 (at + i) (omega arith))
+
+pub part-append-right : (p q : List ℕ) (at to n : ℕ) → length p + at ≡ to → at + n ≤ length q → part (p ++ q) to n ≡ part q at n
+part-append-right p q at to n e h =
+    let l = length-append p q in
+    parts-equal (p ++ q) q to at n (omega arith) h (λ i j.
+    let k : to + i ≡ length p + (at + i) = omega arith in
+    ap (λ (m : ℕ). getD (p ++ q) m 0) k ∙ getD-append-add p q (at + i) 0)
+
 -- the part of a slice from a to e
 pub part-from : (s : List ℕ) (a e n : ℕ) → e ≡ a + n → take (e - a) (drop a s) ≡ part s a n
 unfolding part

@@ -1,6 +1,5 @@
 use Rattle.codec.proofs.Areas.{splice-all, length-repeated}
 use mathlib.Core.Path.{_∙_}
-use native.Mathlib.Omega.{arith}
 use borrow.Author.Needs.{needs}
 use Rattle.flash.proofs.erase_chip.Statement.{statement}
 use Rattle.flash.proofs.erase_chip.Tie as tie

@@ -1,4 +1,3 @@
-use native.Mathlib.Omega.{arith}
 use borrow.Author.Needs.{needs}
 use Rattle.flash.proofs.is_erased.Statement.{statement}
 use Rattle.flash.proofs.is_erased.Tie as tie

@@ -1,6 +1,5 @@
 use Rattle.codec.proofs.Areas.{part-from}
 use mathlib.Core.Path.{refl}
-use native.Mathlib.Omega.{arith}
 use borrow.Author.Needs.{needs}
 use Rattle.flash.proofs.nor_tree.Statement.{statement}
 use Rattle.flash.proofs.nor_tree.Tie as tie

@@ -1,6 +1,5 @@
 use Rattle.codec.proofs.Areas.{part-from}
 use mathlib.Core.Path.{refl}
-use native.Mathlib.Omega.{arith}
 use borrow.Author.Needs.{needs}
 use Rattle.flash.proofs.pages_of.Statement.{statement}
 use Rattle.flash.proofs.pages_of.Tie as tie

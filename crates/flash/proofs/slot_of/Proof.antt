@@ -2,7 +2,6 @@ use Rattle.flash.specs.Chip.{slotOf}
 use native.Mathlib.Nat.{mod-lt}
 use Prim.Native.Nat.{_-_}
 use mathlib.Core.Path.{refl}
-use native.Mathlib.Omega.{arith}
 use borrow.Author.Needs.{needs}
 use Rattle.flash.proofs.slot_of.Statement.{statement}
 use Rattle.flash.proofs.slot_of.Tie as tie

@@ -1,0 +1,3 @@
+pub mod Differences
+pub mod Codes
+pub mod Records

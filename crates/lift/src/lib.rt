@@ -1,0 +1,94 @@
+// A lift (document 01, "Chips and slots"): its limits, its load as stored, its record of 32 bytes.
+ghost use mathlib.Core.Path.{_≡_};
+ghost use mathlib.Core.Bool.{true};
+ghost use Prim.Native.Nat.{_+_, _^_, _≤_, _<_};
+ghost use lib.ListN.{length};
+ghost use Rattle.codec.specs.Area.{splice};
+ghost use Rattle.lift.specs.Limits as Limits;
+ghost use Rattle.lift.specs.Record.{recordBytes, timeAt, codeAt};
+
+// "a time (ms, 0 to 999,999,999,999,999)"
+pub const TIME_LIMIT: u64 = 999999999999999;
+// "a load (units of 10 g, −50,000 to 100,000)"
+pub const LOAD_MIN: i32 = -50000;
+
+pub const LOAD_MAX: i32 = 100000;
+// "A load is stored as load + 50,001"
+const STORED_OFFSET: i32 = 50001;
+
+pub const CODE_MAX: u32 = 150001;
+// "Its record has 32 bytes: time 8, load 4, note 20"
+pub const RECORD_BYTES: usize = 32;
+
+pub const NOTE_BYTES: usize = 20;
+
+const CODE_AT: usize = 8;
+
+const NOTE_AT: usize = 12;
+
+pub fn time_ok(time: u64) -> bool
+    ensures { λ r. ⌜ r ≡ Limits.timeOk time ⌝ }
+{
+    time <= TIME_LIMIT
+}
+
+pub fn load_ok(load: i32) -> bool
+    ensures { λ r. ⌜ r ≡ Limits.loadOk load ⌝ }
+{
+    (LOAD_MIN <= load) & (load <= LOAD_MAX)
+}
+
+pub fn code_ok(code: u32) -> bool
+    ensures { λ r. ⌜ r ≡ Limits.codeOk code ⌝ }
+{
+    (1 <= code) & (code <= CODE_MAX)
+}
+
+// A load within its limits, as it is stored.
+pub fn stored(load: i32) -> u32
+    requires { ⌜ Limits.loadOk load ≡ true ⌝ }
+    ensures { λ r. ⌜ r ≡ Limits.stored load ⌝ }
+{
+    (load + STORED_OFFSET) as u32
+}
+
+// The load that a stored number stands for.
+pub fn load_of(code: u32) -> i32
+    requires { ⌜ code < 2 ^ 31 ⌝ }
+    ensures { λ r. ⌜ r ≡ Limits.loadOf code ⌝ }
+{
+    (code as i32) - STORED_OFFSET
+}
+
+// The page with a record from `at` on.
+pub fn with_record(
+    page: [u8; 512],
+    at: usize,
+    time: u64,
+    code: u32,
+    note: [u8; NOTE_BYTES],
+) -> [u8; 512]
+    requires { ⌜ at + 32 ≤ 512 ⌝ }
+    ensures { λ r. ⌜ r ≡ splice page at (recordBytes time code note) ⌝ }
+{
+    let mut p = page;
+    codec::put_u64(&mut p, at, time);
+    codec::put_u32(&mut p, at + CODE_AT, code);
+    codec::copy(&mut p, at + NOTE_AT, &note);
+    p
+}
+
+// The time of the record in an area from `at` on, and its load as stored.
+pub fn record_time(area: &[u8], at: usize) -> u64
+    requires { ⌜ at + 8 ≤ length (now area) ⌝ }
+    ensures { λ r. ⌜ r ≡ timeAt (now (area .entry)) at ⌝ }
+{
+    codec::get_u64(area, at)
+}
+
+pub fn record_code(area: &[u8], at: usize) -> u32
+    requires { ⌜ at + 12 ≤ length (now area) ⌝ }
+    ensures { λ r. ⌜ r ≡ codeAt (now (area .entry)) at ⌝ }
+{
+    codec::get_u32(area, at + CODE_AT)
+}

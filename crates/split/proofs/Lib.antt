@@ -1,0 +1,3 @@
+pub mod Offset
+pub mod Prediction
+pub mod Midpoint

@@ -1,0 +1,14 @@
+pub mod Held
+pub mod Descent
+pub mod Grown
+pub mod Insert
+pub mod Built
+pub mod Homes
+pub mod Search
+pub mod Examples
+pub mod Places
+pub mod Coded
+pub mod Read
+pub mod Swept
+pub mod Planned
+pub mod Fields
