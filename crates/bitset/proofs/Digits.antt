@@ -91,7 +91,8 @@ trailing-clear (suc k) x zero h = go (x % 2) refl h
     go (suc d) e l = absurd (omega arith)
 trailing-clear (suc k) x (suc j) h = bit-suc x j ∙ go (x % 2) h (trailing-clear k (x / 2) j)
   where
-    go : (d : ℕ) → suc j < under d (trailingZeros k (x / 2)) → (j < trailingZeros k (x / 2) → bit (x / 2) j ≡ 0) → bit (x / 2) j ≡ 0
+    go : (d : ℕ) → suc j < under d (trailingZeros k (x / 2)) → (j < trailingZeros k (x / 2) → bit (x / 2) j ≡ 0)
+        → bit (x / 2) j ≡ 0
     go zero l rest = rest (omega arith)
     go (suc d) l rest = absurd (omega arith)
 

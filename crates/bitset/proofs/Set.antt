@@ -1,4 +1,4 @@
--- The set's laws: what an insertion, a list of insertions and a removal do to `has`, hence to the places; how many places there are.
+-- What an insertion, a list of insertions and a removal do to `has`, hence to the set's places.
 use mathlib.Core.Path.{_≡_, refl, ap, _∙_}
 use mathlib.Core.Bool.{Bool, true, false, not, _&&_, _||_}
 use mathlib.Core.List.{List, [], _∷_}
@@ -111,3 +111,6 @@ members-inserted-all ps h = picked-same _ _ 0 320 (λ q a b. has-inserted-all ps
 pub members-within : (ws : List ℕ) → Within (has ws) 0 320 (members ws)
 unfolding members
 members-within ws = picked-within (has ws) 0 320
+
+pub length-members : (ws : List ℕ) → length (members ws) ≤ 320
+length-members ws = omega (arith, members-within ws .size)

@@ -22,4 +22,5 @@ module _ {ℓ} {A : Type ℓ} where
   pub each-same : (f g : ℕ → A) (from n : ℕ) → ((i : ℕ) → from ≤ i → i < from + n → f i ≡ g i) → each f from n ≡ each g from n
   unfolding each
   each-same f g from zero h = refl
-  each-same f g from (suc n) h = rw (h from (omega arith) (omega arith), each-same f g (suc from) n (λ i a b. h i (omega arith) (omega arith)))
+  each-same f g from (suc n) h =
+      rw (h from (omega arith) (omega arith), each-same f g (suc from) n (λ i a b. h i (omega arith) (omega arith)))

@@ -1,4 +1,4 @@
--- Fragments in a Bloom page: byte jL + m of page i is byte iL + m of section j, and 0 past the sections. By induction on the sections.
+-- Byte jL + m of Bloom page i is byte iL + m of section j, and 0 past the sections. By induction on the sections.
 use mathlib.Core.Path.{_≡_, refl, sym, ap, _∙_}
 use mathlib.Core.List.{List, [], _∷_, _++_}
 use Prim.Native.Nat.{ℕ, zero, suc, _+_, _-_, _*_, _/_, _%_, _≤_, _<_}

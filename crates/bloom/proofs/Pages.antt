@@ -1,4 +1,4 @@
--- The Bloom pages give a segment's sections back, so a load of the segment is never passed over. The second page counts for five sections only.
+-- The Bloom pages give a segment's sections back, so a load of the segment is never passed over.
 use mathlib.Core.Path.{_≡_, sym, ap, _∙_}
 use mathlib.Core.Bool.{true}
 use mathlib.Core.List.{List, [], _++_}
@@ -12,15 +12,17 @@ use Rattle.codec.proofs.Areas.{getD-part}
 use Rattle.bitset.specs.Set.{elem}
 use Rattle.bitset.proofs.Elem.{elem-at, elem-stands}
 use Rattle.bloom.specs.Bloom.{sectionOf, mayHold}
-use Rattle.bloom.specs.Pages.{each, sectionCount, fragmentLength, segmentSections, norSection, sectionsFrom, bloomPage, sectionIn, sectionsIn}
+use Rattle.bloom.specs.Pages.{each, sectionCount, fragmentLength, segmentSections, norSection, sectionsFrom}
+use Rattle.bloom.specs.Pages.{bloomPage, sectionIn, sectionsIn}
 use Rattle.bloom.proofs.Section.{length-sectionOf, bloom-never-misses, may-hold-at}
 use Rattle.bloom.proofs.Each.{length-each, getD-each}
 use Rattle.bloom.proofs.Fragments.{Length, fragment-length, fragment-room, page-at, length-page}
-use Rattle.bloom.proofs.Stored.{length-sectionIn, section-front, section-back, length-sectionsFrom, whole-section, last-section}
+use Rattle.bloom.proofs.Stored.{length-sectionIn, section-front, section-back}
+use Rattle.bloom.proofs.Stored.{length-sectionsFrom, whole-section, last-section}
 
 -- ---- what the pages hold is read back
 
--- one to five sections of 128 bytes, and the page after the first Bloom page
+-- one to five sections of 128 bytes, and the page after the first Bloom page, which is used for five sections only
 module _ (ss : List (List ℕ)) (second : List ℕ) (some : 1 ≤ length ss) (five : length ss ≤ 5)
     (whole : (j : ℕ) → j < length ss → length (getD ss j []) ≡ 128) (room : 512 ≤ length second)
     (used : 5 ≤ length ss → second ≡ bloomPage ss 1) where
@@ -84,7 +86,8 @@ module _ (codes : List ℕ) where
   unfolding segmentSections
   length-segmentSections = length-each _ 0 (sectionCount (length codes))
 
-  pub segment-section : (j : ℕ) → j < sectionCount (length codes) → getD (segmentSections codes) j [] ≡ sectionOf (part codes (64 * j) 64)
+  pub segment-section : (j : ℕ) → j < sectionCount (length codes)
+      → getD (segmentSections codes) j [] ≡ sectionOf (part codes (64 * j) 64)
   unfolding segmentSections
   segment-section j h =
       let e : 0 + j ≡ j = omega arith in
@@ -92,7 +95,8 @@ module _ (codes : List ℕ) where
       ∙ ap (λ (j : ℕ). sectionOf (part codes (64 * j) 64)) e
 
   pub segment-whole : (j : ℕ) → j < length (segmentSections codes) → length (getD (segmentSections codes) j []) ≡ 128
-  segment-whole j h = ap length (segment-section j (omega (arith, length-segmentSections))) ∙ length-sectionOf (part codes (64 * j) 64)
+  segment-whole j h =
+      ap length (segment-section j (omega (arith, length-segmentSections))) ∙ length-sectionOf (part codes (64 * j) 64)
 
   length-part-left : (j : ℕ) → length (part codes (64 * j) 64) ≡ min 64 (length codes - 64 * j)
   unfolding part
@@ -121,7 +125,8 @@ pub bloom-never-misses-in-pages : (codes second : List ℕ) (code : ℕ) → len
 bloom-never-misses-in-pages codes second code most room used e =
     let l = length-segmentSections codes in
     let s = elem-stands code codes e in
-    let back : sectionsIn (bloomPage (segmentSections codes) 0 ++ second) (length (segmentSections codes)) ≡ segmentSections codes =
+    let ss = segmentSections codes in
+    let back : sectionsIn (bloomPage ss 0 ++ second) (length ss) ≡ ss =
     pages-read-back (segmentSections codes) second (omega (arith, s .inside)) (omega arith) (segment-whole codes) room
     (λ h. used (omega arith)) in
     rw (← l, back) (segment-never-misses codes code e)

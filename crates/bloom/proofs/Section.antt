@@ -76,7 +76,8 @@ module _ (s : List ℕ) (code : ℕ) (z : Section s) where
       let z2 : Section s2 = set-section s1 (bloomBit 1 u) z1 in
       set-bits s2 (bloomBit 2 u) d (omega (arith, bit-below 2 u))
       ∙ ap (λ (b : Bool). eqb d (bloomBit 2 u) || b) (set-bits s1 (bloomBit 1 u) d (omega (arith, bit-below 1 u)))
-      ∙ ap (λ (b : Bool). eqb d (bloomBit 2 u) || (eqb d (bloomBit 1 u) || b)) (set-bits s (bloomBit 0 u) d (omega (arith, bit-below 0 u)))
+      ∙ ap (λ (b : Bool). eqb d (bloomBit 2 u) || (eqb d (bloomBit 1 u) || b))
+      (set-bits s (bloomBit 0 u) d (omega (arith, bit-below 0 u)))
 
 or-true : (a b : Bool) → b ≡ true → (a || b) ≡ true
 or-true true b e = refl
@@ -84,7 +85,9 @@ or-true false b e = e
 
 -- a bit that is set stays set
 pub noted-keeps : (s : List ℕ) (code d : ℕ) → Section s → isSet s d ≡ true → isSet (noted s code) d ≡ true
-noted-keeps s code d z e = noted-bits s code z d ∙ kept (eqb d (bloomBit 2 (code - 1))) (eqb d (bloomBit 1 (code - 1))) (eqb d (bloomBit 0 (code - 1)))
+noted-keeps s code d z e =
+    noted-bits s code z d
+    ∙ kept (eqb d (bloomBit 2 (code - 1))) (eqb d (bloomBit 1 (code - 1))) (eqb d (bloomBit 0 (code - 1)))
   where
     kept : (a b c : Bool) → (a || (b || (c || isSet s d))) ≡ true
     kept a b c = or-true a (b || (c || isSet s d)) (or-true b (c || isSet s d) (or-true c (isSet s d) e))
@@ -109,13 +112,16 @@ at-bits f g code h e =
 
 pub noted-holds : (s : List ℕ) (code : ℕ) → Section s → holds (noted s code) code ≡ true
 unfolding atBits
-noted-holds s code z = all-three (isSet (noted s code) (b 0)) (isSet (noted s code) (b 1)) (isSet (noted s code) (b 2)) first second last
+noted-holds s code z =
+    all-three (isSet (noted s code) (b 0)) (isSet (noted s code) (b 1)) (isSet (noted s code) (b 2)) first second last
   where
     b : ℕ → ℕ
     b k = bloomBit k (code - 1)
 
     first : isSet (noted s code) (b 0) ≡ true
-    first = noted-bits s code z (b 0) ∙ rw (eq-eqb (b 0) (b 0) refl) (or-true (eqb (b 0) (b 2)) _ (or-true (eqb (b 0) (b 1)) true refl))
+    first =
+        noted-bits s code z (b 0)
+        ∙ rw (eq-eqb (b 0) (b 0) refl) (or-true (eqb (b 0) (b 2)) _ (or-true (eqb (b 0) (b 1)) true refl))
 
     second : isSet (noted s code) (b 1) ≡ true
     second = noted-bits s code z (b 1) ∙ rw (eq-eqb (b 1) (b 1) refl) (or-true (eqb (b 1) (b 2)) true refl)
@@ -145,7 +151,8 @@ all-never-misses s [] code z e = cc
 all-never-misses s (c ∷ cs) code z e =
     go (eqb code c) refl e (all-never-misses (noted s c) cs code (length-noted s c ∙ z))
   where
-    go : (b : Bool) → eqb code c ≡ b → (b || elem code cs) ≡ true → (elem code cs ≡ true → holds (notedAll (noted s c) cs) code ≡ true)
+    go : (b : Bool) → eqb code c ≡ b → (b || elem code cs) ≡ true
+        → (elem code cs ≡ true → holds (notedAll (noted s c) cs) code ≡ true)
         → holds (notedAll (noted s c) cs) code ≡ true
     go true t e ih =
         let q : code ≡ c = eqb-true code c t in

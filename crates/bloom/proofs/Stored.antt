@@ -83,7 +83,8 @@ module _ (pages : List ℕ) (L j : ℕ) (p : 1024 ≤ length pages) (r : j * L +
   unfolding sectionIn
   section-front n k l =
       getD-take 128 (part pages (j * L) L ++ part pages (512 + j * L) L) n 0 k
-      ∙ List·getD-append (part pages (j * L) L) (part pages (512 + j * L) L) 0 n (omega (arith, front)) ∙ getD-part pages (j * L) L n l
+      ∙ List·getD-append (part pages (j * L) L) (part pages (512 + j * L) L) 0 n (omega (arith, front))
+      ∙ getD-part pages (j * L) L n l
 
   pub section-back : (n : ℕ) → n < 128 → L ≤ n → getD (sectionIn pages L j) n 0 ≡ getD pages (512 + j * L + (n - L)) 0
   unfolding sectionIn

@@ -1,4 +1,4 @@
--- What `page_byte`, `in_some` and `may_hold` go by: the code's numbers of sections and of bytes in a fragment are the definitions'.
+-- What `page_byte`, `in_some` and `may_hold` go by: the code's numbers of sections and fragment bytes are the definitions'.
 use mathlib.Core.Path.{_≡_, sym, ap, _∙_}
 use mathlib.Core.Bool.{Bool, true, false, _&&_, _||_}
 use mathlib.Core.List.{List, []}

@@ -44,8 +44,8 @@ section c =
 turn : (c : tie.After-has-bit Inv-loop μ-loop) (v : Bool) → c .has-bit .result ≡ v
     → isSet (section c) (c .before .before .before .before .before .args .b) ≡ v
 turn c v e =
-    bit-there (section c) (c .before .before .before .before .before .args .b) (c .before .stored-byte .result) (c .has-bit .result) v
-    (c .before .stored-byte .ensures) (c .has-bit .ensures) e
+    bit-there (section c) (c .before .before .before .before .before .args .b) (c .before .stored-byte .result)
+    (c .has-bit .result) v (c .before .stored-byte .ensures) (c .has-bit .ensures) e
 
 returns : tie.Need-returns Inv-loop μ-loop
 returns c =

@@ -12,12 +12,13 @@ fragment-of-requires : tie.Need-fragment-of-requires
 fragment-of-requires c κs = search needs
 
 -- the bounds, once the fragment length is known
-bounds : (c : tie.After-fragment-of) → Place (c .before .before .before .args .i) (c .before .before .before .args .k) (c .fragment-of .result)
+bounds : (c : tie.After-fragment-of)
+    → Place (c .before .before .before .args .i) (c .before .before .before .args .k) (c .fragment-of .result)
 bounds c =
     let a = c .before .before .before .args in
     let p = c .before .before .before .pre in
-    place (a .nor .now) (a .buffer) (a .count) (a .i) (p .1) (p .2) (a .k) (c .before .sections-of .result) (c .fragment-of .result)
-    (c .before .sections-of .ensures) (c .fragment-of .ensures) (p .3)
+    place (a .nor .now) (a .buffer) (a .count) (a .i) (p .1) (p .2) (a .k) (c .before .sections-of .result)
+    (c .fragment-of .result) (c .before .sections-of .ensures) (c .fragment-of .ensures) (p .3)
 
 div-j : tie.Need-div-j
 div-j c = bounds c .some
