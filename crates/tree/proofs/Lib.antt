@@ -12,3 +12,4 @@ pub mod Read
 pub mod Swept
 pub mod Planned
 pub mod Fields
+pub mod Written
