@@ -113,8 +113,12 @@ module _ (b : Bucket) (f : Fits b) where
       let k : i < length (b .entries) = ltb-true i (length (b .entries)) t in
       let u = entry-used i d k in
       let q : numberAt (bucketBytes b) (28 + 8 * i) 2 ≡ getD (b .entries) i d .position = ap (λ (z : Entry). z .position) u in
-      rw (ne-eqb (numberAt (bucketBytes b) (28 + 8 * i) 2) 65535 (omega (arith, f .positions i d k)), u,
-      entries-back n (suc i) (omega arith) k, drop-cons (b .entries) i d k))
+      rw (
+        ne-eqb (numberAt (bucketBytes b) (28 + 8 * i) 2) 65535 (omega (arith, f .positions i d k)),
+        u,
+        entries-back n (suc i) (omega arith) k,
+        drop-cons (b .entries) i d k,
+      ))
       (λ t. let k : length (b .entries) ≤ i = ltb-false i (length (b .entries)) t in
       rw (entry-free i k (omega arith), drop-of-length-le (b .entries) k))
 
@@ -151,13 +155,13 @@ right-fits (split m a c) f = child-fits c (f .2)
 pub node-back : (b : Bucket) → Fits b → nodeIn (bucketBytes b) ≡ nodeOf b
 unfolding nodeIn bucketBytes part bytes repeated
 node-back b f = λ i. record {
-      x = le-bytes 4 (b .x) (f .x) i;
-      y = le-bytes 4 (b .y) (f .y) i;
-      mid = le-bytes 4 (midNumber (b .kids)) (mid-fits (b .kids) (f .kids)) i;
-      left = le-bytes 1 (leftNumber (b .kids)) (left-fits (b .kids) (f .kids)) i;
-      right = le-bytes 1 (rightNumber (b .kids)) (right-fits (b .kids) (f .kids)) i;
-      entries = entries-back b f 13 0 (omega arith) (omega arith) i;
-    }
+  x = le-bytes 4 (b .x) (f .x) i;
+  y = le-bytes 4 (b .y) (f .y) i;
+  mid = le-bytes 4 (midNumber (b .kids)) (mid-fits (b .kids) (f .kids)) i;
+  left = le-bytes 1 (leftNumber (b .kids)) (left-fits (b .kids) (f .kids)) i;
+  right = le-bytes 1 (rightNumber (b .kids)) (right-fits (b .kids) (f .kids)) i;
+  entries = entries-back b f 13 0 (omega arith) (omega arith) i;
+}
 
 child-back : (a : Option ℕ) → FitsChild a → childAt (childNumber a) ≡ a
 child-back none f = refl

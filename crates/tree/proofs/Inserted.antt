@@ -227,10 +227,10 @@ module _ (ls : List ℕ) (ok : Loads ls) (open-end : length ls < 320) (t : List 
   outcome rest = let v = built-inv ls ok t e in insert-outcome ls (v .0) t (v .1) open-end loads same rest l lo hi
 
   -- the plan closes the segment exactly where its loads and then the new one need bucket 36
-  pub plan-needs : (rest : List ℕ) → needsBucket36 ls l ≡ true → planOn (treeBytes t) (length t) (length ls) loads l ≡ noRoom
-  plan-needs rest h =
-      subst (λ (o : Option (List Bucket)). Outcome t rest l (length ls) o (planOn (treeBytes t) (length t) (length ls) loads l))
-      (needs-none ls l t e h) (outcome rest)
+  pub plan-needs : needsBucket36 ls l ≡ true → planOn (treeBytes t) (length t) (length ls) loads l ≡ noRoom
+  plan-needs h =
+      subst (λ (o : Option (List Bucket)). Outcome t [] l (length ls) o (planOn (treeBytes t) (length t) (length ls) loads l))
+      (needs-none ls l t e h) (outcome [])
 
   -- else its writes give the bytes of the tree with the load
   pub plan-done : (rest : List ℕ) (u : List Bucket) → treeOf (ls ++ (l ∷ [])) ≡ some u

@@ -1,6 +1,6 @@
 -- The writes of an insertion into the bytes of a tree give the bytes of the grown tree, and go over bytes that are 255. Each write
 -- stays within one place. Assumes nothing.
-use Prim.Native.Nat.{ℕ, zero, suc, _+_, _*_, _≤_, _<_}
+use Prim.Native.Nat.{ℕ, zero, suc, _+_, _-_, _*_, _≤_, _<_}
 use mathlib.Core.Path.{_≡_, refl, sym, ap, _∙_}
 use mathlib.Core.Bool.{Bool, true, false, cond, _&&_}
 use mathlib.Core.Option.{Option, none, some}
@@ -10,12 +10,12 @@ use lib.ListN.{length, getD, set, length-append, length-set}
 use lib.Seq.{getD-set-same, set-set, set-append-seam, getD-append-seam}
 use Rattle.codec.specs.Area.{part, splice, repeated, allOnes}
 use Rattle.codec.specs.Number.{bytes}
-use Rattle.codec.proofs.Areas.{part-part, part-append-left, part-repeated, ones-repeated}
+use Rattle.codec.proofs.Areas.{part-all, part-part, part-append-left, part-repeated, ones-repeated}
 use Rattle.codec.proofs.Numbers.{length-bytes}
 use Rattle.tree.specs.Rules.{Entry, Bucket, Kids, whole, split, root, at, added, linked, childOf, withChild}
-use Rattle.tree.specs.Bytes.{bucketBytes, treeBytes}
+use Rattle.tree.specs.Bytes.{bucketBytes, treeBytes, bucketPage, bucketOffset}
 use Rattle.tree.specs.Writes.{Write, Writes, nothing, pair, midWrite, childWrite, rangeWrite, entryWrite, isClear, written}
-use Rattle.tree.proofs.Places.{splice-left, length-places, place-used, place-free, write-used, write-new}
+use Rattle.tree.proofs.Places.{splice-left, length-places, places-none, rest-free, place-used, place-free, write-used, write-new}
 use Rattle.tree.proofs.Coded.{length-bucket}
 use Rattle.tree.proofs.Fields.{mid-written, left-written, right-written, range-written, added-written}
 use Rattle.tree.proofs.Fields.{mid-clear, whole-clear, left-clear, right-clear, entry-clear}
@@ -23,6 +23,26 @@ use Rattle.tree.proofs.Fields.{mid-clear, whole-clear, left-clear, righ
 pub length-tree : (t : List Bucket) → length (treeBytes t) ≡ 4608
 unfolding treeBytes
 length-tree t = length-places 128 bucketBytes length-bucket 36 t
+
+-- a tree without buckets is erased, and so are the places past the last bucket
+pub tree-none : treeBytes [] ≡ repeated 4608 255
+unfolding treeBytes
+tree-none = places-none 128 bucketBytes length-bucket 36
+
+pub tree-rest : (t : List Bucket) (at n : ℕ) → length t ≤ 36 → 128 * length t ≤ at → at + n ≤ 4608
+    → part (treeBytes t) at n ≡ repeated n 255
+unfolding treeBytes
+tree-rest t at n few h k = rest-free 128 bucketBytes length-bucket 36 t at n few h k
+
+-- the buckets' part of NOR
+pub tree-of-nor : (t : List Bucket) (rest : List ℕ) → part (treeBytes t ++ rest) 0 4608 ≡ treeBytes t
+tree-of-nor t rest =
+    let l = length-tree t in
+    part-append-left (treeBytes t) rest 0 4608 (omega arith) ∙ part-all (treeBytes t) 4608 l
+
+-- the one rule from a bucket's number to its page and offset, in pages from 20 on
+pub bucket-start : (b : ℕ) → 512 * (bucketPage b - 20) + bucketOffset b ≡ 128 * b
+bucket-start b = omega arith
 
 -- a bucket with the mid m, and no child yet
 abbrev pub halved : Bucket → ℕ → Bucket

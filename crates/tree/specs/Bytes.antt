@@ -1,5 +1,5 @@
 -- A tree in bytes (document 01, "Tree"): 36 places of 128 bytes, in NOR from 0 and in pages 20 to 28 of a slot. Assumes nothing.
-use Prim.Native.Nat.{ℕ, zero, suc}
+use Prim.Native.Nat.{ℕ, zero, suc, _+_, _*_, _/_, _%_}
 use mathlib.Core.Option.{Option, none, some}
 use mathlib.Core.List.{List, [], _∷_, _++_}
 use Rattle.codec.specs.Area.{repeated}
@@ -47,3 +47,10 @@ bucketBytes b =
 -- "NOR holds buckets of 128 bytes from 0"; "20–28 tree, four buckets a page"; "Unused bucket places in a tree page are 255"
 unfoldable pub treeBytes : List Bucket → List ℕ
 treeBytes t = places 128 bucketBytes 36 t
+
+-- "A bucket number becomes a page and an offset by one rule"
+abbrev pub bucketPage : ℕ → ℕ
+bucketPage b = 20 + b / 4
+
+abbrev pub bucketOffset : ℕ → ℕ
+bucketOffset b = 128 * (b % 4)
