@@ -15,3 +15,4 @@ pub mod Fields
 pub mod Written
 pub mod Inserted
 pub mod Clears
+pub mod ByteExamples
