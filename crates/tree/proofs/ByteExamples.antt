@@ -1,22 +1,21 @@
 -- Trees in bytes by computation: what is read, a search, the writes of the fourteenth of equal loads. Assumes nothing.
-use Prim.Native.Nat.{ℕ, _+_, _*_}
 use mathlib.Core.Path.{_≡_, refl}
-use mathlib.Core.Bool.{Bool, true, false}
-use mathlib.Core.Option.{Option, none, some}
-use mathlib.Core.List.{List, [], _∷_, _++_}
+use mathlib.Core.Bool.{true, false}
+use mathlib.Core.Option.{none, some}
+use mathlib.Core.List.{[], _∷_, _++_}
 use lib.ListN.{getD}
 use Rattle.codec.specs.Area.{part, splice, repeated, allOnes}
 use Rattle.codec.specs.Number.{le, bytes}
 use Rattle.lift.specs.Limits.{stored}
 use Rattle.split.specs.Split.{overlap, rule, bring, mid, sum, weighed, slope, fitted, lowFrom, highFrom, low, high, midpoint}
-use Rattle.tree.specs.Rules.{Bucket, Kids, whole, split}
+use Rattle.tree.specs.Rules.{Bucket, split}
 use Rattle.tree.specs.Search.{hits}
 use Rattle.tree.specs.Bytes.{places, entryBytes, bucketBytes, treeBytes}
-use Rattle.tree.specs.Reading.{bucketAt, entriesFrom, Node, nodeIn, kidsOf, positionsGood, nodeGood}
+use Rattle.tree.specs.Reading.{bucketAt, entriesFrom, nodeIn, kidsOf, positionsGood, nodeGood}
 use Rattle.tree.specs.Sweep.{recordsGood, sweepFrom, sweepOn}
 use Rattle.tree.specs.Plan.{Plan, splitBucket, planFrom, planOn}
 use Rattle.tree.specs.Writes.{writesOf, allClear, allWritten}
-use Rattle.tree.proofs.Examples.{entries, equal, rising, leaf, grown, thirteen, fourteen}
+use Rattle.tree.proofs.Examples.{entries, equal, rising, grown, thirteen, fourteen}
 
 -- the range (499, 500] is split at 500
 abbrev narrow : Bucket
@@ -33,7 +32,8 @@ good-nodes = (refl, refl, refl, refl, refl)
 
 -- a search of the bytes, and one where a record has another load
 sweeps :
-    (sweepOn (treeBytes grown) 3 15 (λ p. getD (rising ++ (50901 ∷ 50756 ∷ [])) p 0) 50601 50901 ≡ some (10 ∷ 11 ∷ 12 ∷ 13 ∷ 14 ∷ []))
+    (sweepOn (treeBytes grown) 3 15 (λ p. getD (rising ++ (50901 ∷ 50756 ∷ [])) p 0) 50601 50901
+    ≡ some (10 ∷ 11 ∷ 12 ∷ 13 ∷ 14 ∷ []))
     × (sweepOn (treeBytes grown) 3 15 (λ p. getD rising p 0) 50601 50901 ≡ none)
 unfolding treeBytes places bucketBytes entryBytes nodeIn entriesFrom kidsOf positionsGood nodeGood part repeated le bytes
     sweepOn sweepFrom recordsGood hits
@@ -44,8 +44,8 @@ abbrev plan : Plan
 plan = planOn (treeBytes thirteen) 1 13 (equal 13) 50501
 
 planned : plan ≡ splitBucket 0 50501 12 0 50501
-unfolding treeBytes places bucketBytes entryBytes nodeIn entriesFrom kidsOf positionsGood nodeGood part repeated le bytes planOn planFrom
-    midpoint mid overlap rule bring low high lowFrom highFrom fitted slope sum weighed stored
+unfolding treeBytes places bucketBytes entryBytes nodeIn entriesFrom kidsOf positionsGood nodeGood part repeated le bytes
+    planOn planFrom midpoint mid overlap rule bring low high lowFrom highFrom fitted slope sum weighed stored
 planned = refl
 
 after-writes :

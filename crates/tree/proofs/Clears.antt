@@ -1,26 +1,26 @@
--- For any bytes: a plan stays within the places of the buckets, its writes are apart from one another, and writes over bytes that are
--- 255 only clear bits. Assumes nothing.
-use Prim.Native.Nat.{ℕ, zero, suc, _+_, _*_, _≤_, _<_}
-use mathlib.Core.Path.{_≡_, refl, sym, ap, _∙_}
+-- For any bytes: a plan stays within the places of the buckets, its writes are apart from one another, and writes over
+-- bytes that are 255 only clear bits. Assumes nothing.
+use Prim.Native.Nat.{ℕ, zero, suc, _+_, _≤_, _<_}
+use mathlib.Core.Path.{_≡_, refl, ap, _∙_}
 use mathlib.Core.Bool.{Bool, true, false, cond, _&&_}
-use mathlib.Core.Logic.{_⊎_, inl, inr}
 use mathlib.Core.Option.{Option, none, some}
-use mathlib.Core.List.{List, [], _∷_}
+use mathlib.Core.List.{List}
 use native.Mathlib.Omega.{arith}
 use lib.Dec.{leb, ltb, eqb}
 use lib.ListN.{length}
-use borrow.Author.Tests.{ltb-true, leb-true}
-use Rattle.codec.specs.Area.{part, splice, allOnes}
+use borrow.Author.Tests.{ltb-true}
+use Rattle.codec.specs.Area.{allOnes}
 use Rattle.codec.specs.Number.{bytes}
-use Rattle.codec.proofs.Areas.{length-splice, part-before, part-after}
+use Rattle.codec.proofs.Areas.{length-splice, part-after}
 use Rattle.codec.proofs.Numbers.{length-bytes}
 use Rattle.split.specs.Split.{midpoint}
 use Rattle.flash.specs.Clears.{OnlyClears}
 use Rattle.flash.proofs.Clearing.{clears-trans, clears-number}
 use Rattle.tree.specs.Rules.{Kids, whole, split, next}
 use Rattle.tree.specs.Reading.{bucketAt, Node, nodeIn, kidsOf, childGood, kidsGood, positionsGood, nodeGood}
-use Rattle.tree.specs.Plan.{Plan, damaged, noRoom, newRoot, intoBucket, newChild, splitBucket, sideByte, planHere, planFrom, fitted, planOn}
-use Rattle.tree.specs.Writes.{Write, Writes, nothing, writesOf, isClear, allClear, written, allWritten}
+use Rattle.tree.specs.Plan.{Plan, damaged, noRoom, newRoot, intoBucket, newChild, splitBucket}
+use Rattle.tree.specs.Plan.{planHere, planFrom, fitted, planOn}
+use Rattle.tree.specs.Writes.{Write, Writes, writesOf, isClear, allClear, written, allWritten}
 use Rattle.tree.proofs.Descent.{if, none-some}
 
 both : (a b : Bool) → (a && b) ≡ true → (a ≡ true) × (b ≡ true)
@@ -65,10 +65,13 @@ next-below b buckets x y (split m left right) l c g e =
     (λ f. child-below b buckets left c (s .0) (rw f at e))
     (λ f. child-below b buckets right c (s .1) (rw f at e))
 
-good-kids : (n : Node) (b buckets count : ℕ) → nodeGood n b buckets count ≡ true → kidsGood b buckets (n .x) (n .y) (kidsOf n) ≡ true
+good-kids : (n : Node) (b buckets count : ℕ) → nodeGood n b buckets count ≡ true
+    → kidsGood b buckets (n .x) (n .y) (kidsOf n) ≡ true
 unfolding nodeGood
 good-kids n b buckets count e =
-    both (ltb (n .x) (n .y) && leb (n .y) 150001) (kidsGood b buckets (n .x) (n .y) (kidsOf n)) (both _ (positionsGood count (n .entries)) e .0) .1
+    both (ltb (n .x) (n .y) && leb (n .y) 150001) (kidsGood b buckets (n .x) (n .y) (kidsOf n))
+    (both _ (positionsGood count (n .entries)) e .0)
+    .1
 
 module _ (area : List ℕ) (buckets count : ℕ) (loads : List ℕ) (l : ℕ) where
   from-within : (steps b : ℕ) → b < buckets → Within (suc buckets) buckets (planFrom area buckets count loads l steps b)
@@ -89,7 +92,8 @@ module _ (area : List ℕ) (buckets count : ℕ) (loads : List ℕ) (l : ℕ) wh
           ])
       go g none e k = here-within (nodeIn (bucketAt area b)) buckets b loads l (kidsOf (nodeIn (bucketAt area b))) h
       go g (some c) e k =
-          k c (next-below b buckets _ _ (kidsOf (nodeIn (bucketAt area b))) l c (good-kids (nodeIn (bucketAt area b)) b buckets count g) e)
+          let s = good-kids (nodeIn (bucketAt area b)) b buckets count g in
+          k c (next-below b buckets _ _ (kidsOf (nodeIn (bucketAt area b))) l c s e)
 
   fitted-within : (p : Plan) → Within (suc buckets) buckets p → Within 36 buckets (fitted buckets p)
   fitted-within damaged w = tt
@@ -125,17 +129,19 @@ pub record Rising (ws : Writes) : Type 0 where
 
 pub writes-rise : (plan : Plan) (n l p : ℕ) → n ≤ 36 → Within 36 n plan → Rising (writesOf plan n l p)
 unfolding writesOf
-writes-rise damaged n l p h w = record { mid = omega arith; child = omega arith; range = omega arith; entry = omega arith }
-writes-rise noRoom n l p h w = record { mid = omega arith; child = omega arith; range = omega arith; entry = omega arith }
-writes-rise newRoot n l p h w = record { mid = omega arith; child = omega arith; range = omega arith; entry = omega arith }
-writes-rise (intoBucket b i) n l p h w = record { mid = omega arith; child = omega arith; range = omega arith; entry = omega arith }
-writes-rise (newChild b side x y) n l p h w = record { mid = omega arith; child = omega arith; range = omega arith; entry = omega arith }
-writes-rise (splitBucket b m side x y) n l p h w = record { mid = omega arith; child = omega arith; range = omega arith; entry = omega arith }
+writes-rise damaged n l p h w = omega arith
+writes-rise noRoom n l p h w = omega arith
+writes-rise newRoot n l p h w = omega arith
+writes-rise (intoBucket b i) n l p h w = omega arith
+writes-rise (newChild b side x y) n l p h w = omega arith
+writes-rise (splitBucket b m side x y) n l p h w = omega arith
 
 -- ---- only bits are cleared
 
 length-written : (nor : List ℕ) (w : Write) → w .to + w .len ≤ length nor → length (written nor w) ≡ length nor
-length-written nor w h = let l = length-bytes (w .len) (w .value) in length-splice nor (w .to) (bytes (w .len) (w .value)) (omega arith)
+length-written nor w h =
+    let l = length-bytes (w .len) (w .value) in
+    length-splice nor (w .to) (bytes (w .len) (w .value)) (omega arith)
 
 -- a write leaves what stands after it
 clear-after : (nor : List ℕ) (v w : Write) → v .to + v .len ≤ w .to → w .to + w .len ≤ length nor → isClear nor w ≡ true

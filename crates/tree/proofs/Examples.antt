@@ -2,11 +2,11 @@
 use Prim.Native.Nat.{ℕ, _+_}
 use mathlib.Core.Path.{_≡_, refl}
 use mathlib.Core.Option.{Option, none, some}
-use mathlib.Core.List.{List, [], _∷_, _++_, map}
+use mathlib.Core.List.{List, [], _∷_, _++_}
 use lib.ListN.{replicate}
 use Rattle.lift.specs.Limits.{stored}
 use Rattle.split.specs.Split.{overlap, rule, bring, mid, sum, weighed, slope, fitted, lowFrom, highFrom, low, high, midpoint}
-use Rattle.tree.specs.Rules.{Entry, Bucket, Kids, whole, split, root, descend, allocate, put, lastLoads, insert, insertMore}
+use Rattle.tree.specs.Rules.{Entry, Bucket, whole, split, root, descend, allocate, put, lastLoads, insert, insertMore}
 use Rattle.tree.specs.Rules.{treeOf}
 use Rattle.tree.specs.Search.{hits, findFrom, find}
 

@@ -1,7 +1,7 @@
 -- An array of places of one width: what stands at a place, and what a write within a place does to the whole, stated once for
 -- entries and buckets. The idea: a write goes past the places before its own. Assumes nothing.
 use Prim.Native.Nat.{ℕ, zero, suc, _+_, _-_, _*_, _≤_, _<_}
-use mathlib.Core.Path.{_≡_, refl, sym, ap, _∙_}
+use mathlib.Core.Path.{_≡_, sym, ap, _∙_}
 use mathlib.Core.List.{List, [], _∷_, _++_, append-assoc}
 use native.Mathlib.Nat.{mul-zero, mul-suc, mul-le-mul-left}
 use native.Mathlib.Omega.{arith}
@@ -16,14 +16,19 @@ use Rattle.tree.specs.Bytes.{places}
 pub splice-left : (p q : List ℕ) (at : ℕ) (r : List ℕ) → at + length r ≤ length p → splice (p ++ q) at r ≡ splice p at r ++ q
 unfolding splice
 splice-left p q at r h =
-    rw (take-append-le at p q (omega arith), drop-append-le (at + length r) p q h, append-assoc (take at p ++ r) (drop (at + length r) p) q)
+    rw (
+      take-append-le at p q (omega arith),
+      drop-append-le (at + length r) p q h,
+      append-assoc (take at p ++ r) (drop (at + length r) p) q,
+    )
 
 pub splice-right : (p q : List ℕ) (k to : ℕ) (r : List ℕ) → length p + k ≡ to → splice (p ++ q) to r ≡ p ++ splice q k r
 unfolding splice
 splice-right p q k to r e =
     let d : to + length r ≡ length p + (k + length r) = omega arith in
     rw (d, ← e, take-append-add p q k, drop-append-add p q (k + length r))
-    (ap (λ (s : List ℕ). s ++ drop (k + length r) q) (append-assoc p (take k q) r) ∙ append-assoc p (take k q ++ r) (drop (k + length r) q))
+    (ap (λ (s : List ℕ). s ++ drop (k + length r) q) (append-assoc p (take k q) r)
+    ∙ append-assoc p (take k q ++ r) (drop (k + length r) q))
 
 -- ---- places
 
@@ -99,7 +104,8 @@ module _ {A : Type 0} (w : ℕ) (code : A → List ℕ) (wide : (a : A) → leng
         let z : w * 0 + off ≡ off = rw mul-zero (omega arith) in
         rw (z, splice-left p q off r (omega arith), c)
 
-    pub write-used : (n : ℕ) (items : List A) (d : A) (i : ℕ) → i < length items → i < n → splice (code (getD items i d)) off r ≡ code a
+    pub write-used : (n : ℕ) (items : List A) (d : A) (i : ℕ) → i < length items → i < n
+        → splice (code (getD items i d)) off r ≡ code a
         → splice (places w code n items) (w * i + off) r ≡ places w code n (set items i a)
     unfolding places
     write-used zero items d i h k c = absurd (omega arith)

@@ -1,4 +1,5 @@
--- A tree in bytes (document 01, "Tree"): 36 places of 128 bytes, in NOR from 0 and in pages 20 to 28 of a slot. Assumes nothing.
+-- A tree in bytes (document 01, "Tree"): 36 places of 128 bytes, in NOR from 0 and in pages 20 to 28 of a slot. Assumes
+-- nothing.
 use Prim.Native.Nat.{ℕ, zero, suc, _+_, _*_, _/_, _%_}
 use mathlib.Core.Option.{Option, none, some}
 use mathlib.Core.List.{List, [], _∷_, _++_}
@@ -40,7 +41,9 @@ rightNumber (split m left right) = childNumber right
 -- "Bucket: min x, max y, mid (4 bytes each), left and right child (1 each, 255 none), ten bytes 255, then 13 entries of 8"
 unfoldable pub bucketBytes : Bucket → List ℕ
 bucketBytes b =
-    bytes 4 (b .x) ++ bytes 4 (b .y) ++ bytes 4 (midNumber (b .kids)) ++ bytes 1 (leftNumber (b .kids)) ++ bytes 1 (rightNumber (b .kids))
+    bytes 4 (b .x) ++ bytes 4 (b .y) ++ bytes 4 (midNumber (b .kids))
+    ++ bytes 1 (leftNumber (b .kids))
+    ++ bytes 1 (rightNumber (b .kids))
     ++ repeated 10 255
     ++ places 8 entryBytes 13 (b .entries)
 
