@@ -1,8 +1,8 @@
--- The set has as many places as its five words have ones: a word's places are counted by its halves, the words one after the other.
-use mathlib.Core.Path.{_≡_, refl, sym, ap, ap₂, _∙_}
+-- The set has as many places as its five words have ones: a word's places are counted by halving it, the words in turn.
+use mathlib.Core.Path.{_≡_, refl, ap, ap₂, _∙_}
 use mathlib.Core.Bool.{Bool, cond}
 use mathlib.Core.List.{List, _∷_}
-use Prim.Native.Nat.{ℕ, zero, suc, _+_, _*_, _/_, _%_, _^_, _≤_, _<_}
+use Prim.Native.Nat.{ℕ, zero, suc, _+_, _*_, _/_, _%_, _^_, _<_}
 use native.Mathlib.Omega.{arith}
 use lib.Count.{ones, ones-step}
 use lib.Dec.{eqb}
@@ -16,7 +16,8 @@ unfolding ones
 zero-ones = refl
 
 -- where a test tells the digits of an x of k digits, it picks as many numbers as x has ones
-word-count : (f : ℕ → Bool) (base k x : ℕ) → ((j : ℕ) → j < k → f (base + j) ≡ eqb (bit x j) 1) → x < 2 ^ k → length (picked f base k) ≡ ones x
+word-count : (f : ℕ → Bool) (base k x : ℕ) → ((j : ℕ) → j < k → f (base + j) ≡ eqb (bit x j) 1) → x < 2 ^ k
+    → length (picked f base k) ≡ ones x
 unfolding picked
 word-count f base zero x h l = let e : x ≡ 0 = omega arith in rw e zero-ones
 word-count f base (suc k) x h l = go (x % 2) refl first (word-count f (suc base) k (x / 2) later (omega arith))

@@ -1,13 +1,16 @@
 -- Binary digits under `|`, under the subtraction of a power, and below the lowest set one: by halving the number.
 use mathlib.Core.Path.{_≡_, refl, sym, ap, _∙_}
 use mathlib.Core.Logic.{_≢_}
+use mathlib.Core.List.{List}
 use Prim.Native.Nat.{ℕ, zero, suc, _+_, _-_, _*_, _/_, _%_, _^_, _≤_, _<_, max}
 use native.Mathlib.Nat.{div-eq-of-lt}
-use native.Mathlib.Decide.{decLt}
+use native.Mathlib.Decide.{decLt, ℕ-discrete}
 use native.Mathlib.Omega.{arith}
 use lib.Bits.{bitOr, or-step, or-shr}
-use lib.Count.{trailingZeros}
+use lib.Count.{trailingZeros, under}
+use lib.ListN.{length, getD, set}
 use lib.Pow.{pow-lt, pow-add, shl-shr, shr-shr}
+use lib.Seq.{getD-set-same, getD-set-other}
 use Rattle.bitset.specs.Set.{bit}
 
 pub bit-suc : (x j : ℕ) → bit x (suc j) ≡ bit (x / 2) j
@@ -83,12 +86,13 @@ unfolding trailingZeros
 trailing-clear zero x j h = absurd (omega arith)
 trailing-clear (suc k) x zero h = go (x % 2) refl h
   where
-    go : (d : ℕ) → x % 2 ≡ d → 0 < lib.Count.under d (trailingZeros k (x / 2)) → bit x 0 ≡ 0
+    go : (d : ℕ) → x % 2 ≡ d → 0 < under d (trailingZeros k (x / 2)) → bit x 0 ≡ 0
     go zero e l = omega arith
     go (suc d) e l = absurd (omega arith)
 trailing-clear (suc k) x (suc j) h = bit-suc x j ∙ go (x % 2) h (trailing-clear k (x / 2) j)
   where
-    go : (d : ℕ) → suc j < lib.Count.under d (trailingZeros k (x / 2)) → (j < trailingZeros k (x / 2) → bit (x / 2) j ≡ 0) → bit (x / 2) j ≡ 0
+    go : (d : ℕ) → suc j < under d (trailingZeros k (x / 2)) → (j < trailingZeros k (x / 2) → bit (x / 2) j ≡ 0)
+        → bit (x / 2) j ≡ 0
     go zero l rest = rest (omega arith)
     go (suc d) l rest = absurd (omega arith)
 
@@ -109,3 +113,21 @@ lowest (suc k) x p h = go (x % 2) refl (λ q. lowest k (x / 2) q (omega arith))
     go (suc d) e rest =
         let z : trailingZeros (suc k) x ≡ 0 = rw e in
         record { below = omega (arith, z); is-set = rw z (omega arith) }
+
+-- ---- one number of a list changed
+
+-- digit m of number j stays where the new number i has it too
+pub cell-other : (s : List ℕ) (i v j m : ℕ) → i < length s → (j ≡ i → bit v m ≡ bit (getD s i 0) m)
+    → bit (getD (set s i v) j 0) m ≡ bit (getD s j 0) m
+cell-other s i v j m l h = go (ℕ-discrete j i)
+  where
+    go : Dec (j ≡ i) → bit (getD (set s i v) j 0) m ≡ bit (getD s j 0) m
+    go (yes e) = rw (e, getD-set-same s i v 0 l) (h e)
+    go (no f) = rw (getD-set-other s i j v 0 f)
+
+pub or-cell-same : (s : List ℕ) (i k : ℕ) → i < length s → bit (getD (set s i (bitOr (getD s i 0) (2 ^ k))) i 0) k ≡ 1
+or-cell-same s i k l = rw (getD-set-same s i (bitOr (getD s i 0) (2 ^ k)) 0 l) (or-same (getD s i 0) k)
+
+pub or-cell-other : (s : List ℕ) (i k j m : ℕ) → i < length s → (j ≡ i → k ≢ m)
+    → bit (getD (set s i (bitOr (getD s i 0) (2 ^ k))) j 0) m ≡ bit (getD s j 0) m
+or-cell-other s i k j m l h = cell-other s i _ j m l (λ e. or-other (getD s i 0) k m (h e))

@@ -1,18 +1,17 @@
--- `nextOf` takes the head off the set's places: what the code finds by trailing zeros is the first place, and the set without it has the rest.
+-- `nextOf` takes the head off the set's places: trailing zeros find the first place, and the set without it has the rest.
 use mathlib.Core.Path.{_≡_, refl, sym, ap, _∙_}
 use mathlib.Core.Bool.{Bool, true, false, cond, not, _&&_}
 use mathlib.Core.List.{List, [], _∷_}
-use Prim.Native.Nat.{ℕ, zero, suc, _+_, _-_, _*_, _/_, _%_, _^_, _≤_, _<_}
+use Prim.Native.Nat.{ℕ, zero, suc, _+_, _-_, _*_, _/_, _%_, _^_, _<_}
 use native.Mathlib.Decide.{decLt}
 use native.Mathlib.Omega.{arith}
 use lib.Count.{trailingZeros, trailing-le}
 use lib.Dec.{eqb}
-use lib.ListN.{length, getD, set}
+use lib.ListN.{getD, set}
 use borrow.Author.Tests.{eq-eqb, ne-eqb}
-use Rattle.bitset.specs.Set.{bit, has, without, picked, members}
+use Rattle.bitset.specs.Set.{has, without, picked, members}
 use Rattle.bitset.specs.Emptying.{nextAmong, nextOf}
 use Rattle.bitset.specs.declared.Bits.{Bits}
-use Rattle.bitset.specs.declared.Next.{Next}
 use Rattle.bitset.proofs.Digits.{bit-zero, trailing-clear, lowest}
 use Rattle.bitset.proofs.Picked.{picked-same, picked-none, picked-first}
 use Rattle.bitset.proofs.Set.{has-without, members-within}
@@ -64,7 +63,8 @@ next-none b z =
 -- ---- what a caller goes by
 
 -- the places but the first picked one are the rest
-picked-rest : (f : ℕ → Bool) (p : ℕ) (ps : List ℕ) (from n : ℕ) → picked f from n ≡ p ∷ ps → picked (λ q. not (eqb q p) && f q) from n ≡ ps
+picked-rest : (f : ℕ → Bool) (p : ℕ) (ps : List ℕ) (from n : ℕ) → picked f from n ≡ p ∷ ps
+    → picked (λ q. not (eqb q p) && f q) from n ≡ ps
 unfolding picked
 picked-rest f p ps from zero e = cc
 picked-rest f p ps from (suc n) e = go (f from) refl e (picked-rest f p ps (suc from) n)

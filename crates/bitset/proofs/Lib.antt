@@ -1,5 +1,6 @@
 pub mod Digits
 pub mod Picked
+pub mod Elem
 pub mod Set
 pub mod Counting
 pub mod Emptying

@@ -1,20 +1,14 @@
--- The numbers of a range that a test picks: equal tests, two ranges in a row, the first one, their order. By induction on the range.
-use mathlib.Core.Path.{_≡_, refl, sym, ap, ap₂, _∙_}
+-- The numbers of a range that a test picks: equal tests, ranges in a row, the first one, their order. By induction on the range.
+use mathlib.Core.Path.{_≡_, refl}
 use mathlib.Core.Bool.{Bool, true, false, cond}
 use mathlib.Core.List.{List, [], _∷_, _++_}
 use Prim.Native.Nat.{ℕ, zero, suc, _+_, _-_, _≤_, _<_}
 use native.Mathlib.Omega.{arith}
-use lib.Dec.{eqb}
 use lib.ListN.{length, getD}
-use borrow.Author.Tests.{eqb-true, eqb-false}
 use Rattle.bitset.specs.Set.{picked}
 
--- a test and what follows where it holds and where not
-pub by-test : {P : Type 0} (b : Bool) → (b ≡ true → P) → (b ≡ false → P) → P
-by-test true p q = p refl
-by-test false p q = q refl
-
-pub picked-same : (f g : ℕ → Bool) (from n : ℕ) → ((p : ℕ) → from ≤ p → p < from + n → f p ≡ g p) → picked f from n ≡ picked g from n
+pub picked-same : (f g : ℕ → Bool) (from n : ℕ) → ((p : ℕ) → from ≤ p → p < from + n → f p ≡ g p)
+    → picked f from n ≡ picked g from n
 unfolding picked
 picked-same f g from zero h = refl
 picked-same f g from (suc n) h =
@@ -86,7 +80,8 @@ picked-within f from (suc n) = go (f from) refl (picked f (suc from) n) (picked-
       size = omega (arith, w .size);
     }
 
-    go : (b : Bool) → f from ≡ b → (l : List ℕ) → Within f (suc from) (suc from + n) l → Within f from (from + suc n) (cond b (from ∷ l) l)
+    go : (b : Bool) → f from ≡ b → (l : List ℕ) → Within f (suc from) (suc from + n) l
+        → Within f from (from + suc n) (cond b (from ∷ l) l)
     go true e l w = add l e w
     go false e l w = record {
       low = λ i h. omega (arith, w .low i h);

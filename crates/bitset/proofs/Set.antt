@@ -1,46 +1,26 @@
--- The set's laws: what an insertion, a list of insertions and a removal do to `has`, hence to the places; how many places there are.
-use mathlib.Core.Path.{_≡_, refl, sym, ap, ap₂, _∙_}
-use mathlib.Core.Logic.{_≢_}
-use mathlib.Core.Bool.{Bool, true, false, cond, not, _&&_, _||_}
-use mathlib.Core.List.{List, [], _∷_, _++_}
-use Prim.Native.Nat.{ℕ, zero, suc, _+_, _-_, _*_, _/_, _%_, _^_, _≤_, _<_}
+-- What an insertion, a list of insertions and a removal do to `has`, hence to the set's places.
+use mathlib.Core.Path.{_≡_, refl, ap, _∙_}
+use mathlib.Core.Bool.{Bool, true, false, not, _&&_, _||_}
+use mathlib.Core.List.{List, [], _∷_}
+use Prim.Native.Nat.{ℕ, zero, suc, _-_, _*_, _/_, _%_, _^_, _≤_, _<_}
 use native.Mathlib.Decide.{ℕ-discrete, decLt}
 use native.Mathlib.Omega.{arith}
-use lib.Bits.{bitOr}
 use lib.Dec.{eqb}
 use lib.ListN.{length, getD, set, length-set, List·getD-eq-default}
-use lib.Seq.{getD-set-same, getD-set-other}
+use lib.Seq.{getD-set-same}
 use borrow.Author.Tests.{eqb-true, eq-eqb, ne-eqb}
 use Rattle.bitset.specs.Set.{bit, has, emptyWords, insertIn, insertAll, without, picked, members, elem}
-use Rattle.bitset.proofs.Digits.{bit-zero, or-same, or-other, clear-same, clear-other}
+use Rattle.bitset.proofs.Digits.{bit-zero, cell-other, or-cell-same, or-cell-other, clear-same, clear-other}
 use Rattle.bitset.proofs.Picked.{picked-same, picked-none, picked-within, Within}
 
--- ---- one word changed
-
--- a set with another word v at p's has what v has at p, and its own where v agrees
-module _ (ws : List ℕ) (p v : ℕ) (l : p / 64 < length ws) where
-  changed-same : has (set ws (p / 64) v) p ≡ eqb (bit v (p % 64)) 1
-  changed-same = rw (getD-set-same ws (p / 64) v 0 l)
-
-  changed-other : (q : ℕ) → q ≢ p → ((j : ℕ) → p % 64 ≢ j → bit v j ≡ bit (getD ws (p / 64) 0) j) → has (set ws (p / 64) v) q ≡ has ws q
-  changed-other q d h = go (ℕ-discrete (q / 64) (p / 64))
-    where
-      go : Dec (q / 64 ≡ p / 64) → has (set ws (p / 64) v) q ≡ has ws q
-      go (yes e) = rw (e, getD-set-same ws (p / 64) v 0 l, h (q % 64) (omega arith))
-      go (no f) = rw (getD-set-other ws (p / 64) (q / 64) v 0 f)
+-- ---- one place put in, or taken out
 
 pub has-inserted : (ws : List ℕ) (p q : ℕ) → p / 64 < length ws → has (insertIn ws p) q ≡ (eqb q p || has ws q)
 has-inserted ws p q l = go (ℕ-discrete q p)
   where
-    w : ℕ
-    w = getD ws (p / 64) 0
-
-    v : ℕ
-    v = bitOr w (2 ^ (p % 64))
-
-    go : Dec (q ≡ p) → has (set ws (p / 64) v) q ≡ (eqb q p || has ws q)
-    go (yes e) = rw (e, eq-eqb p p refl, changed-same ws p v l, or-same w (p % 64))
-    go (no f) = rw (ne-eqb q p f, changed-other ws p v l q f (λ j d. or-other w (p % 64) j d))
+    go : Dec (q ≡ p) → has (insertIn ws p) q ≡ (eqb q p || has ws q)
+    go (yes e) = rw (e, eq-eqb p p refl, or-cell-same ws (p / 64) (p % 64) l)
+    go (no f) = rw (ne-eqb q p f, or-cell-other ws (p / 64) (p % 64) (q / 64) (q % 64) l (λ e. omega arith))
 
 -- a place of the set lies in one of its words
 has-in : (ws : List ℕ) (p : ℕ) → has ws p ≡ true → p / 64 < length ws
@@ -65,9 +45,13 @@ has-without ws p q h = go (ℕ-discrete q p)
     on : bit w (p % 64) ≡ 1
     on = eqb-true _ _ h
 
-    go : Dec (q ≡ p) → has (set ws (p / 64) (w - 2 ^ (p % 64))) q ≡ (not (eqb q p) && has ws q)
-    go (yes e) = rw (e, eq-eqb p p refl, changed-same ws p (w - 2 ^ (p % 64)) l, clear-same (p % 64) w on)
-    go (no f) = rw (ne-eqb q p f, changed-other ws p (w - 2 ^ (p % 64)) l q f (λ j d. clear-other (p % 64) j w d on))
+    v : ℕ
+    v = w - 2 ^ (p % 64)
+
+    go : Dec (q ≡ p) → has (set ws (p / 64) v) q ≡ (not (eqb q p) && has ws q)
+    go (yes e) = rw (e, eq-eqb p p refl, getD-set-same ws (p / 64) v 0 l, clear-same (p % 64) w on)
+    go (no f) =
+        rw (ne-eqb q p f, cell-other ws (p / 64) v (q / 64) (q % 64) l (λ e. clear-other (p % 64) (q % 64) w (omega arith) on))
 
 -- ---- the empty set, and a list of places put into it
 
@@ -127,3 +111,6 @@ members-inserted-all ps h = picked-same _ _ 0 320 (λ q a b. has-inserted-all ps
 pub members-within : (ws : List ℕ) → Within (has ws) 0 320 (members ws)
 unfolding members
 members-within ws = picked-within (has ws) 0 320
+
+pub length-members : (ws : List ℕ) → length (members ws) ≤ 320
+length-members ws = omega (arith, members-within ws .size)

@@ -1,5 +1,5 @@
 -- Document 01, "Search": "The matches of one segment are a set of 320 bits". The set is held in 64-bit words.
-use mathlib.Core.Bool.{Bool, true, false, cond, _||_}
+use mathlib.Core.Bool.{Bool, false, cond, _||_}
 use mathlib.Core.List.{List, [], _∷_}
 use Prim.Native.Nat.{ℕ, zero, suc, _-_, _/_, _%_, _^_}
 use lib.Bits.{bitOr}

@@ -1,6 +1,6 @@
 // The matches of one segment: a set of 320 bits, emptied from the lowest bit up.
 ghost use mathlib.Core.Path.{_≡_};
-ghost use Prim.Native.Nat.{ℕ, _^_, _<_, _≤_};
+ghost use Prim.Native.Nat.{_^_, _<_, _≤_};
 ghost use lib.ListN.{length};
 ghost use lib.Count.{trailingZeros};
 ghost use lib.Count as Count;

@@ -1,4 +1,5 @@
--- A load and the number it is stored as determine each other, and compare alike: the offset drops out of every difference. Assumes nothing.
+-- A load and the number it is stored as determine each other and compare alike: the offset drops out of every difference.
+-- Assumes nothing.
 use mathlib.Core.Path.{_≡_, refl, sym, ap, ap₂, _∙_}
 use mathlib.Core.Bool.{Bool, true, false, _&&_}
 use Prim.Native.Nat.{ℕ, suc, _+_, _-_, _^_, _≤_, _<_}
@@ -69,9 +70,22 @@ within-limits (negsuc n) h =
       high = rw e (omega arith);
     }
 
+-- loads within their limits compare as what they are stored as
+pub stored-le : (a b : ℤ) → loadOk a ≡ true → loadOk b ≡ true → leZ a b ≡ leb (stored a) (stored b)
+stored-le a b ha hb =
+    sym (ap₂ leZ (within-limits a ha .load) (within-limits b hb .load)) ∙ load-le (stored a) (stored b)
+
+pub stored-lt : (a b : ℤ) → loadOk a ≡ true → loadOk b ≡ true → ltZ a b ≡ ltb (stored a) (stored b)
+stored-lt a b ha hb =
+    sym (ap₂ ltZ (within-limits a ha .load) (within-limits b hb .load)) ∙ load-lt (stored a) (stored b)
+
+pub stored-limits : (z : ℤ) → loadOk z ≡ true → codeOk (stored z) ≡ true
+stored-limits z h = code-limits (stored z) ∙ ap loadOk (within-limits z h .load) ∙ h
+
 -- the code's sum of a load and 50,001, read back from its bits
 pub sum-read : (z : ℤ) → SFits w32 z → Stored z → toZ w32 (ofZ w32 (toZ w32 (ofZ w32 z) +ℤ pos 50001)) ≡ pos (stored z)
 sum-read z f s = rw (toZ-ofZ w32 z f, s .sum) (toZ-pos w32 (stored z) (omega (arith, s .high)))
 
 pub load-fits : (code : ℕ) → code < 2 ^ 31 → SFits w32 (loadOf code)
-load-fits code h = D.by-sign code 50001 (λ z. SFits w32 z) (λ m p. record { sfits = omega arith }) (λ m p. record { sfits = omega arith })
+load-fits code h =
+    D.by-sign code 50001 (λ z. SFits w32 z) (λ m p. record { sfits = omega arith }) (λ m p. record { sfits = omega arith })

@@ -1,7 +1,8 @@
--- Integers as differences of two naturals, `subℕ a b` for a − b: each operation and each test on such differences is one on naturals. Assumes nothing.
-use mathlib.Core.Path.{_≡_, refl, sym, ap, _∙_}
+-- Integers as differences of two naturals, `subℕ a b` for a − b: each operation and each test on them is one on naturals.
+-- Assumes nothing.
+use mathlib.Core.Path.{_≡_, refl, sym, ap, subst, _∙_}
 use mathlib.Core.Bool.{Bool, true, false, cond}
-use Prim.Native.Nat.{ℕ, zero, suc, _+_, _-_, _*_, _/_, _%_, _≤_, _<_}
+use Prim.Native.Nat.{ℕ, zero, suc, _+_, _-_, _*_, _/_, _≤_, _<_}
 use native.Mathlib.Nat.{mul-add-div, div-add-mod, div-eq-of-lt, mod-lt, lt-of-mul-lt-mul-left}
 use native.Mathlib.Omega.{arith}
 use lib.Dec.{ltb, leb}
@@ -25,6 +26,11 @@ is-pos a b n e = by-sign a b (λ z. z ≡ pos n) (λ m p. ap pos (omega arith)) 
 
 pub is-neg : (a b n : ℕ) → b ≡ a + suc n → subℕ a b ≡ negsuc n
 is-neg a b n e = by-sign a b (λ z. z ≡ negsuc n) (λ m p. absurd (omega arith)) (λ m p. ap negsuc (omega arith))
+
+-- every integer is a difference
+pub every : (P : ℤ → Type 0) → ((a b : ℕ) → P (subℕ a b)) → (z : ℤ) → P z
+every P f (pos n) = subst P (is-pos n 0 n (omega arith)) (f n 0)
+every P f (negsuc n) = subst P (is-neg 0 (suc n) n (omega arith)) (f 0 (suc n))
 
 -- a − b = c − d where a + d = c + b
 pub same : (a b c d : ℕ) → a + d ≡ c + b → subℕ a b ≡ subℕ c d

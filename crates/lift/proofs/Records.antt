@@ -1,4 +1,4 @@
--- A record read back is what was written, and written back is what was read: its three fields are parts side by side. Assumes nothing.
+-- A record read back is what was written, and written back is what was read: its fields are parts side by side. Assumes nothing.
 use mathlib.Core.Path.{_≡_, refl, sym, ap, ap₂, _∙_}
 use mathlib.Core.List.{List, [], _++_, append-assoc}
 use Prim.Native.Nat.{ℕ, _+_, _^_, _≤_, _<_}
@@ -43,7 +43,8 @@ module _ (time code : ℕ) (note : List ℕ) (bt : time < 256 ^ 8) (bc : code < 
       }
 
   -- an area whose 32 bytes from `at` are the record
-  pub record-read : (s : List ℕ) (at : ℕ) → at + 32 ≤ length s → part s at 32 ≡ recordBytes time code note → Holds s at time code note
+  pub record-read : (s : List ℕ) (at : ℕ) → at + 32 ≤ length s → part s at 32 ≡ recordBytes time code note
+      → Holds s at time code note
   record-read s at h e =
       let r = read-alone in
       let z : at + 0 ≡ at = omega arith in
@@ -60,9 +61,10 @@ module _ (time code : ℕ) (note : List ℕ) (bt : time < 256 ^ 8) (bc : code < 
       → Holds (splice s at (recordBytes time code note)) at time code note
   record-written s at h =
       let l = length-record time code note en in
-      let k : at + length (recordBytes time code note) ≤ length s = omega arith in
-      let m = length-splice s at (recordBytes time code note) k in
-      record-read (splice s at (recordBytes time code note)) at (omega arith) (part-splice s at (recordBytes time code note) k 32 l)
+      let p : List ℕ = recordBytes time code note in
+      let k : at + length p ≤ length s = omega arith in
+      let m = length-splice s at p k in
+      record-read (splice s at p) at (omega arith) (part-splice s at p k 32 l)
 
 -- the bytes of a part of bytes
 part-below : (s : List ℕ) (at n i : ℕ) → at + n ≤ length s → ((j : ℕ) → getD s j 0 < 256) → getD (part s at n) i 0 < 256
@@ -99,7 +101,8 @@ unfolding recordBytes
 record-steps s p q r at time code note h ep eq er =
     let l : length (bytes 8 time) ≡ 8 = length-bytes 8 time in
     let m : length (bytes 8 time ++ bytes 4 code) ≡ 12 = simp (length-append, length-bytes) in
+    let n = splice-next s at (bytes 8 time) (at + 8) (bytes 4 code) (omega arith) (omega arith) in
     rw (er, eq, ep)
-    (ap (λ (t : List ℕ). splice t (at + 12) note) (splice-next s at (bytes 8 time) (at + 8) (bytes 4 code) (omega arith) (omega arith))
+    (ap (λ (t : List ℕ). splice t (at + 12) note) n
     ∙ splice-next s at (bytes 8 time ++ bytes 4 code) (at + 12) note (omega arith) (omega arith)
     ∙ ap (splice s at) (append-assoc (bytes 8 time) (bytes 4 code) note))

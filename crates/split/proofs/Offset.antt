@@ -1,12 +1,12 @@
--- The paper's midpoint rules on naturals that all stand above their integers by one offset k: the offset drops out of every test and sum.
+-- The paper's midpoint rules on naturals that stand above their integers by one offset k: it drops out of every test and sum.
 -- Assumes nothing.
-use mathlib.Core.Path.{_≡_, refl, sym, ap, ap₂, _∙_}
+use mathlib.Core.Path.{_≡_, refl, ap, ap₂, _∙_}
 use mathlib.Core.Bool.{Bool, true, false, cond}
 use Prim.Native.Nat.{ℕ, zero, suc, _+_, _-_, _*_, _/_, _≤_, _<_, min, max}
 use native.Mathlib.Omega.{arith}
 use lib.Dec.{ltb, leb}
 use lib.IntN.{ℤ, pos, subℕ, _+ℤ_, _-ℤ_}
-use lib.Signed.{ltZ, leZ, shrZ}
+use lib.Signed.{ltZ, shrZ}
 use borrow.Author.Tests.{leb-true, leb-false}
 use Rattle.lift.proofs.Differences as D
 use Rattle.split.specs.Split.{minZ, maxZ, halfway, twice, rule, bring}
@@ -48,7 +48,9 @@ module _ (k : ℕ) where
   max-of a b = simp (D.le-offset k, max-cond, cond-of)
 
   pub half-of : (a b : ℕ) → halfway (of a) (of b) ≡ of ((a + b) / 2)
-  half-of a b = ap (λ z. shrZ z 2) (D.add a k b k ∙ D.same (a + b) (k + k) (a + b) (2 * k) (omega arith)) ∙ D.down 2 (a + b) k (omega arith)
+  half-of a b =
+      ap (λ z. shrZ z 2) (D.add a k b k ∙ D.same (a + b) (k + k) (a + b) (2 * k) (omega arith))
+      ∙ D.down 2 (a + b) k (omega arith)
 
   pub up-of : (a : ℕ) → of a +ℤ pos 1 ≡ of (a + 1)
   up-of a = D.add a k 1 0 ∙ D.same (a + 1) (k + 0) (a + 1) k (omega arith)

@@ -1,4 +1,4 @@
--- The prediction on stored loads: weights that sum to 0 let the offset of the loads through, and l and h come out of two sums of naturals.
+-- The prediction on stored loads: weights that sum to 0 cancel the offset of the loads, and l and h come out of two sums.
 -- Assumes nothing.
 use mathlib.Core.Path.{_≡_, refl, sym, ap, ap₂, _∙_}
 use mathlib.Core.List.{List, [], _∷_, map}
@@ -7,7 +7,7 @@ use native.Mathlib.Omega.{arith}
 use native.Mathlib.Numerals.{add-one}
 use lib.ListN.{length, drop, getD, drop-of-length-le}
 use lib.Seq.{drop-cons}
-use lib.IntN.{ℤ, pos, negsuc, subℕ, _+ℤ_, _*ℤ_}
+use lib.IntN.{ℤ, pos, subℕ, _+ℤ_, _*ℤ_}
 use lib.Signed.{shrZ}
 use Rattle.lift.specs.Limits.{loadOf}
 use Rattle.lift.proofs.Differences as D
@@ -119,7 +119,9 @@ predicts-quotients a w p q hp hq ep eq =
     let far = fitted-of 32 a w q (omega arith) in
     let r : ℕ = (max p q + 181) / 182 in
     record {
-      low = sym (ap (λ z. shrZ z 182) (ap₂ minZ near far ∙ min-of (182 * 3000000) p q) ∙ D.down 182 (min p q) 3000000 (omega arith));
+      low =
+          sym (ap (λ z. shrZ z 182) (ap₂ minZ near far ∙ min-of (182 * 3000000) p q)
+          ∙ D.down 182 (min p q) 3000000 (omega arith));
       high =
           sym (ap (λ z. ceilDiv z 182) (ap₂ maxZ near far ∙ max-of (182 * 3000000) p q)
           ∙ D.up 182 (max p q) 3000000 r (182 * r - max p q) (omega arith) (omega arith));

@@ -1,6 +1,6 @@
--- Where a full bucket is split (document 01, "Tree", from "Prediction" on): over the integers, as the paper writes it, and on stored numbers.
+-- Where a full bucket is split (document 01, "Tree", from "Prediction" on): over the integers, and on stored numbers.
 -- Assumes nothing.
-use mathlib.Core.Bool.{Bool, cond, _&&_}
+use mathlib.Core.Bool.{cond, _&&_}
 use mathlib.Core.List.{List, [], _∷_, map}
 use Prim.Native.Nat.{ℕ, zero, suc}
 use lib.IntN.{ℤ, pos, negsuc, negℤ, _+ℤ_, _-ℤ_, _*ℤ_}

@@ -40,7 +40,8 @@ returns c =
     let t = u .before .before .before in
     let s = t .before .before in
     let n : length (s .args .page) ≡ 512 = search needs in
-    record-steps (s .args .page) _ _ _ _ _ _ _ (omega arith) (t .put-u64 .ensures) (u .put-u32 .ensures) (c .before .copy .ensures)
+    record-steps (s .args .page) _ _ _ _ _ _ _ (omega arith)
+    (t .put-u64 .ensures) (u .put-u32 .ensures) (c .before .copy .ensures)
 
 pub with-record-spec : {M : Type 1} → statement M
 with-record-spec =

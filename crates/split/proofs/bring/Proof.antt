@@ -24,7 +24,12 @@ smaller-requires : tie.Need-smaller-requires
 smaller-requires c κs = search needs
 
 returns-2 : tie.Need-returns-2
-returns-2 c = rw (c .smaller .ensures, c .before .larger .ensures, bring-some 3000000 _ _ _ (lt-leb _ _ (c .before .before .if1 .left)))
+returns-2 c =
+    rw (
+      c .smaller .ensures,
+      c .before .larger .ensures,
+      bring-some 3000000 _ _ _ (lt-leb _ _ (c .before .before .if1 .left)),
+    )
 
 pub bring-spec : {M : Type 1} → statement M
 bring-spec =

@@ -52,7 +52,8 @@ returns c =
     let b = c .before .before .before .before .before .before .args .self in
     let i = c .before .before .before .before .loop .i in
     let f : Fits w64 (getD (b .words) i 0) = search needs in (
-      sym (next-found b i _ _ (omega arith) (c .before .before .before .before .loop .inv .1) (c .before .before .if1 .taken) (f .fits)
+      sym (next-found b i _ _ (omega arith) (c .before .before .before .before .loop .inv .1) (c .before .before .if1 .taken)
+          (f .fits)
           (c .before .lowest .ensures .0) (c .power .ensures)),
       omega arith,
     )

@@ -1,0 +1,7 @@
+pub mod Section
+pub mod Each
+pub mod Fragments
+pub mod Stored
+pub mod Filling
+pub mod Pages
+pub mod Turns

@@ -1,0 +1,2 @@
+pub mod Bloom
+pub mod Pages

@@ -1,0 +1,1 @@
+// Mathematics alone: the paper log (document 01, "Paper log").

@@ -1,0 +1,37 @@
+-- What a search finds over all segments (document 01, "Search"): rows "by serial and then position, so oldest first over all segments".
+-- Assumes nothing.
+use mathlib.Core.Bool.{Bool, true, false, cond}
+use mathlib.Core.Option.{Option, none, some}
+use mathlib.Core.List.{List, [], _∷_, _++_}
+use Prim.Native.Nat.{ℕ, zero, suc, _+_}
+use Rattle.walk.specs.declared.Cursor.{Cursor}
+use Rattle.walk.specs.declared.Log.{Log}
+use Rattle.walk.specs.declared.Query.{Query}
+use Rattle.walk.specs.declared.Step.{Step}
+use Rattle.walk.specs.declared.Step.the-variants.{End, Damage, Pass, Visit}
+use Rattle.walk.specs.Seek.{startOf}
+use Rattle.walk.specs.Visit.{advanceOf, closedRows, openRows}
+
+-- rows of older segments before those of newer ones; none stands for damage
+abbrev pub joinRows : Option (List (List ℕ)) → Option (List (List ℕ)) → Option (List (List ℕ))
+joinRows none newer = none
+joinRows (some older) none = none
+joinRows (some older) (some newer) = some (older ++ newer)
+
+-- the rows of the closed segments from a cursor on, in n steps; serials fall, so as many steps as the serial before says are enough
+unfoldable pub rowsFrom : ℕ → List ℕ → ℕ → ℕ → Query → Cursor → Option (List (List ℕ))
+rowsFrom zero nand slots live q c = some []
+rowsFrom (suc n) nand slots live q c =
+    elim (advanceOf nand slots live q c) [
+      | End ↦ some []
+      | Damage ↦ none
+      | Pass d ↦ rowsFrom n nand slots live q d
+      | Visit s d ↦ joinRows (rowsFrom n nand slots live q d) (closedRows nand s q)
+    ]
+
+abbrev pub closedFound : List ℕ → Log → Query → Cursor → Option (List (List ℕ))
+closedFound nand g q c = cond (c .good) (rowsFrom (g .current + 1) nand (g .slots) (g .live) q c) none
+
+-- all rows; none where damage is met
+unfoldable pub foundRows : List ℕ → List ℕ → List ℕ → Log → Query → Option (List (List ℕ))
+foundRows nand nor page g q = joinRows (closedFound nand g q (startOf nand g q)) (openRows nand nor page g q)

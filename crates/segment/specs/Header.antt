@@ -1,0 +1,68 @@
+-- The header page of a closed segment (document 01, "Bloom and skip list"; damage: "Search", second paragraph). Assumes nothing.
+use mathlib.Core.Bool.{Bool, true, _&&_}
+use mathlib.Core.List.{List, [], _∷_, _++_}
+use Prim.Native.Nat.{ℕ, _+_}
+use lib.Dec.{eqb, leb, ltb}
+use Rattle.codec.specs.Area.{repeated}
+use Rattle.codec.specs.Number.{bytes, numberAt}
+use Rattle.lift.specs.Limits.{timeOk, codeOk}
+use Rattle.bloom.specs.Pages.{sectionCount, fragmentLength}
+use Rattle.skiplist.specs.declared.Pointer.{Pointer}
+use Rattle.skiplist.specs.Skip.{inSlots, levelOf, nodeOf}
+use Rattle.skiplist.specs.PointerBytes.{pointersBytes, pointersAt}
+use Rattle.segment.specs.declared.Closing.{Closing}
+use Rattle.segment.specs.declared.Header.{Header}
+
+-- "serial 4, count 2, buckets, sections, L, level 1 each, six zeros"
+unfoldable pub countBytes : ℕ → ℕ → ℕ → List ℕ
+countBytes serial count buckets =
+    bytes 4 serial ++ (bytes 2 count ++ (bytes 1 buckets ++ (bytes 1 (sectionCount count)
+    ++ (bytes 1 (fragmentLength (sectionCount count)) ++ (bytes 1 (levelOf serial) ++ repeated 6 0)))))
+
+-- "start and end time 8 each, low and high load 4 each"
+unfoldable pub spanBytes : ℕ → ℕ → ℕ → ℕ → List ℕ
+spanBytes start end low high = bytes 8 start ++ (bytes 8 end ++ (bytes 4 low ++ bytes 4 high))
+
+-- the header page: "four pointers, zeros"
+unfoldable pub headerPage : Closing → List ℕ
+headerPage c =
+    countBytes (c .serial) (c .count) (c .buckets) ++ (spanBytes (c .start) (c .end) (c .low) (c .high)
+    ++ (pointersBytes (nodeOf (c .heads) (levelOf (c .serial))) ++ repeated 432 0))
+
+-- count 1 to 320, buckets 1 to 36, sections and L as the count gives
+unfoldable pub countsGood : ℕ → ℕ → ℕ → ℕ → Bool
+countsGood count buckets sections fragment =
+    (leb 1 count && leb count 320) && ((leb 1 buckets && leb buckets 36)
+    && (eqb sections (sectionCount count) && eqb fragment (fragmentLength (sectionCount count))))
+
+-- times and loads within their limits, start not above end, low not above high
+unfoldable pub spanGood : ℕ → ℕ → ℕ → ℕ → Bool
+spanGood start end low high = (timeOk start && (timeOk end && leb start end)) && (codeOk low && (codeOk high && leb low high))
+
+-- a pointer's time within its limit, its slot below S or 65,535
+unfoldable pub pointerGood : ℕ → Pointer → Bool
+pointerGood slots p = timeOk (p .time) && inSlots p slots
+
+unfoldable pub pointersGood : ℕ → List Pointer → Bool
+pointersGood slots [] = true
+pointersGood slots (p ∷ ps) = pointerGood slots p && pointersGood slots ps
+
+-- no damage in the header page h; its serial is below the one before
+unfoldable pub headerGood : List ℕ → ℕ → ℕ → Bool
+headerGood h slots before =
+    countsGood (numberAt h 4 2) (numberAt h 6 1) (numberAt h 7 1) (numberAt h 8 1)
+    && (spanGood (numberAt h 16 8) (numberAt h 24 8) (numberAt h 32 4) (numberAt h 36 4)
+    && (pointersGood slots (pointersAt h 40) && ltb (numberAt h 0 4) before))
+
+-- the header as read
+unfoldable pub headerIn : List ℕ → ℕ → ℕ → Header
+headerIn h slots before = record {
+  good = headerGood h slots before;
+  serial = numberAt h 0 4;
+  count = numberAt h 4 2;
+  buckets = numberAt h 6 1;
+  start = numberAt h 16 8;
+  low = numberAt h 32 4;
+  high = numberAt h 36 4;
+  next = pointersAt h 40;
+}

@@ -1,0 +1,50 @@
+-- The pages that a close programs (document 01, "Segments"; "Chips and slots": pages of a slot). Assumes nothing.
+use mathlib.Core.Bool.{Bool, true, false, cond, not, _&&_, _||_}
+use mathlib.Core.List.{List, _++_}
+use Prim.Native.Nat.{ℕ, zero, suc, _+_, _-_, _*_, _/_, _%_, min}
+use lib.Dec.{eqb, leb, ltb}
+use Rattle.codec.specs.Area.{part, repeated}
+use Rattle.flash.specs.Chip.{pageErased, programmed}
+use Rattle.bloom.specs.Pages.{sectionsFrom, bloomPage}
+use Rattle.segment.specs.declared.Closing.{Closing}
+use Rattle.segment.specs.Header.{headerPage}
+
+-- whether a close programs page p: the part-filled lift page, a tree page for every four buckets begun, page 29, page 30
+-- "only for five sections", page 31
+unfoldable pub pageDue : ℕ → ℕ → ℕ → Bool
+pageDue count buckets p =
+    cond (ltb p 20) (not (eqb (count % 16) 0) && eqb p (count / 16))
+    (cond (ltb p 29) (ltb ((p - 20) * 4) buckets)
+    (not (eqb p 30) || ltb 256 count))
+
+-- tree page i: "four buckets a page"; "Unused bucket places in a tree page are 255"
+unfoldable pub treePage : List ℕ → ℕ → ℕ → List ℕ
+treePage nor buckets i =
+    part nor (i * 512) (min 512 (buckets * 128 - i * 512)) ++ repeated (512 - min 512 (buckets * 128 - i * 512)) 255
+
+-- what a close programs into page p
+unfoldable pub closePage : List ℕ → Closing → ℕ → List ℕ
+closePage nor c p =
+    cond (ltb p 20) (c .page)
+    (cond (ltb p 29) (treePage nor (c .buckets) (p - 20))
+    (cond (ltb p 31) (bloomPage (sectionsFrom nor (c .bloom) (c .count)) (p - 29))
+    (headerPage c)))
+
+-- whether those of the n pages from p on that are due are erased
+unfoldable pub pagesErased : ℕ → ℕ → List ℕ → ℕ → ℕ → ℕ → Bool
+pagesErased zero p nand slot count buckets = true
+pagesErased (suc n) p nand slot count buckets =
+    (not (pageDue count buckets p) || pageErased nand slot p) && pagesErased n (suc p) nand slot count buckets
+
+-- those of the n pages from p on that are due are programmed, "in rising page order"
+unfoldable pub pagesProgrammed : ℕ → ℕ → List ℕ → List ℕ → ℕ → Closing → List ℕ
+pagesProgrammed zero p nand nor slot c = nand
+pagesProgrammed (suc n) p nand nor slot c =
+    pagesProgrammed n (suc p) (cond (pageDue (c .count) (c .buckets) p) (programmed nand slot p (closePage nor c p)) nand) nor slot c
+
+-- the pages of a slot that a close programs are erased, and are programmed
+abbrev pub closeErased : List ℕ → ℕ → ℕ → ℕ → Bool
+closeErased nand slot count buckets = pagesErased 32 0 nand slot count buckets
+
+abbrev pub closeProgrammed : List ℕ → List ℕ → ℕ → Closing → List ℕ
+closeProgrammed nand nor slot c = pagesProgrammed 32 0 nand nor slot c

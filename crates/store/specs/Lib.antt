@@ -1,0 +1,4 @@
+pub mod Bounds
+pub mod World
+pub mod Calls
+pub mod Queries

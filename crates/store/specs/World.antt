@@ -1,0 +1,166 @@
+-- What a close, a drop and a lift that is put do to the chips and the state (document 01, "State", "Segments"), for any chips and any state.
+-- Assumes nothing.
+use mathlib.Core.Bool.{Bool, true, false, cond, not, _&&_}
+use mathlib.Core.List.{List, [], _∷_, _++_, map}
+use Prim.Native.Nat.{ℕ, _+_, _-_, _*_, _/_, _%_}
+use lib.Dec.{eqb, leb, ltb}
+use lib.IntN.{ℤ, pos}
+use lib.ListN.{length, drop, replicate, set}
+use lib.Signed.{ltZ}
+use Rattle.codec.specs.Area.{splice, repeated}
+use Rattle.flash.specs.Chip.{slotOf, pageOf, programmed, slotErased, chipErased, erasedPage}
+use Rattle.lift.specs.Limits.{stored}
+use Rattle.lift.specs.Record.{recordBytes}
+use Rattle.bloom.specs.Bloom.{noted, emptySection}
+use Rattle.skiplist.specs.Skip.{pointer, levelOf, headsAfter}
+use Rattle.segment.specs.declared.Closing.{Closing}
+use Rattle.segment.specs.declared.Header.{Header}
+use Rattle.segment.specs.Header.{headerIn}
+use Rattle.segment.specs.Pages.{closeProgrammed}
+use Rattle.tree.specs.Plan.{Plan}
+use Rattle.tree.specs.Writes.{writesOf, allWritten, bucketsAfter}
+use Rattle.store.specs.declared.State.{State}
+
+-- both chips and the state
+pub record World : Type 0 where
+  pub nand : List ℕ
+  pub nor : List ℕ
+  pub state : State
+
+-- ---- close
+
+-- what a close needs of the state: "The end time is next time less 1"
+unfoldable pub closing : State → Closing
+closing s = record {
+  serial = s .current;
+  count = s .count;
+  buckets = s .buckets;
+  start = s .start;
+  end = s .next - 1;
+  low = stored (s .low);
+  high = stored (s .high);
+  heads = s .heads;
+  page = s .page;
+  bloom = s .bloom;
+}
+
+-- "A close leaves count, buckets, last loads, start, low and high 0, the page buffer 255 and the Bloom buffer 0"; it "moves on one serial",
+-- and the heads up to its level point to the segment
+unfoldable pub movedOn : State → ℕ → State
+movedOn s slot = record {
+  oldest = s .oldest;
+  current = s .current + 1;
+  count = 0;
+  buckets = 0;
+  next = s .next;
+  live = s .live;
+  heads = headsAfter (s .heads) (levelOf (s .current)) (pointer slot (s .start));
+  loads = replicate 13 (pos 0);
+  page = erasedPage;
+  bloom = emptySection;
+  start = 0;
+  low = pos 0;
+  high = pos 0;
+}
+
+-- "Closing programs a part-filled lift page, tree, Bloom and header, erases NOR and moves on one serial."
+unfoldable pub closeWorld : World → ℕ → World
+closeWorld w slots = record {
+  nand = closeProgrammed (w .nand) (w .nor) (slotOf (w .state .current) slots) (closing (w .state));
+  nor = chipErased (length (w .nor));
+  state = movedOn (w .state) (slotOf (w .state .current) slots);
+}
+
+-- ---- drop
+
+-- the header of the closed segment that becomes oldest
+abbrev pub nextOldest : World → ℕ → Header
+nextOldest w slots = headerIn (pageOf (w .nand) (slotOf (w .state .oldest + 1) slots) 31) slots (w .state .current)
+
+-- a closed segment becomes oldest, and not the open one
+abbrev pub closedRemains : State → Bool
+closedRemains s = ltb (s .oldest + 1) (s .current)
+
+-- the oldest live time after a drop: "the start of the oldest retained lift, or next time if there is none"
+unfoldable pub liveAfter : World → ℕ → ℕ
+liveAfter w slots = cond (closedRemains (w .state)) (nextOldest w slots .start) (cond (eqb (w .state .count) 0) (w .state .next) (w .state .start))
+
+unfoldable pub withoutOldest : State → ℕ → State
+withoutOldest s live = record {
+  oldest = s .oldest + 1;
+  current = s .current;
+  count = s .count;
+  buckets = s .buckets;
+  next = s .next;
+  live = live;
+  heads = s .heads;
+  loads = s .loads;
+  page = s .page;
+  bloom = s .bloom;
+  start = s .start;
+  low = s .low;
+  high = s .high;
+}
+
+-- "Drop erases the oldest closed segment."
+unfoldable pub dropWorld : World → ℕ → World
+dropWorld w slots = record {
+  nand = slotErased (w .nand) (slotOf (w .state .oldest) slots);
+  nor = w .nor;
+  state = withoutOldest (w .state) (liveAfter w slots);
+}
+
+-- ---- put
+
+-- the last 13 loads with a new one, "oldest first": at its place until there are 13, then behind the others
+unfoldable pub pushed : List ℤ → ℕ → ℤ → List ℤ
+pushed loads count load = cond (ltb count 13) (set loads count load) (drop 1 loads ++ (load ∷ []))
+
+-- the page buffer with the lift's record
+abbrev pub pageWith : State → ℕ → ℤ → List ℕ → List ℕ
+pageWith s time load note = splice (s .page) (s .count % 16 * 32) (recordBytes time (stored load) note)
+
+-- the Bloom buffer with the lift's bits
+abbrev pub bloomWith : State → ℤ → List ℕ
+bloomWith s load = noted (s .bloom) (stored load)
+
+-- the lift is the sixteenth of its page, the sixty-fourth of its section
+abbrev pub fillsPage : State → Bool
+fillsPage s = eqb (s .count % 16) 15
+
+abbrev pub fillsSection : State → Bool
+fillsSection s = eqb (s .count % 64) 63
+
+abbrev pub sectionStart : State → ℕ
+sectionStart s = 4608 + s .count / 64 * 128
+
+-- the state with a lift more: next time is "last accepted + 1"; at count 0 the lift starts the segment, and is the oldest retained
+-- one where no closed segment is left
+unfoldable pub stateWith : State → ℕ → ℤ → List ℕ → Plan → State
+stateWith s time load note p = record {
+  oldest = s .oldest;
+  current = s .current;
+  count = s .count + 1;
+  buckets = bucketsAfter p (s .buckets);
+  next = time + 1;
+  live = cond (eqb (s .count) 0 && eqb (s .oldest) (s .current)) time (s .live);
+  heads = s .heads;
+  loads = pushed (s .loads) (s .count) load;
+  page = cond (fillsPage s) erasedPage (pageWith s time load note);
+  bloom = cond (fillsSection s) emptySection (bloomWith s load);
+  start = cond (eqb (s .count) 0) time (s .start);
+  low = cond (eqb (s .count) 0) load (cond (ltZ load (s .low)) load (s .low));
+  high = cond (eqb (s .count) 0) load (cond (ltZ (s .high) load) load (s .high));
+}
+
+-- The lift goes last into the open segment, its entry where the plan says. "A page goes to NAND when its sixteenth lift arrives, and a
+-- Bloom section to NOR at its sixty-fourth; that buffer is then made empty."
+unfoldable pub putWorld : World → ℕ → ℕ → ℤ → List ℕ → Plan → World
+putWorld w slots time load note p =
+    let s = w .state in
+    let entered = allWritten (w .nor) (writesOf p (s .buckets) (stored load) (s .count)) in
+    record {
+      nand = cond (fillsPage s) (programmed (w .nand) (slotOf (s .current) slots) (s .count / 16) (pageWith s time load note)) (w .nand);
+      nor = cond (fillsSection s) (splice entered (sectionStart s) (bloomWith s load)) entered;
+      state = stateWith s time load note p;
+    }

@@ -1,0 +1,99 @@
+-- What a search takes from each segment (document 01, "Search"). Assumes nothing.
+use mathlib.Core.Bool.{Bool, true, false, cond, not, _&&_, _||_}
+use mathlib.Core.Option.{Option, none, some}
+use mathlib.Core.List.{List, [], _∷_, map}
+use Prim.Native.Nat.{ℕ, zero, suc, _+_, _-_, _*_, _/_}
+use lib.Dec.{eqb, leb, ltb}
+use lib.ListN.{getD}
+use Rattle.flash.specs.Chip.{slotOf, pagesOf, norTree}
+use Rattle.lift.specs.Rows.{timeIn, codeIn, recordIn}
+use Rattle.bloom.specs.Bloom.{mayHold}
+use Rattle.bloom.specs.Pages.{sectionCount, sectionsIn}
+use Rattle.bitset.specs.Set.{picked, elem}
+use Rattle.skiplist.specs.declared.Pointer.{Pointer}
+use Rattle.skiplist.specs.Skip as Skip
+use Rattle.segment.specs.declared.Header.{Header}
+use Rattle.tree.specs.Sweep.{sweepOn}
+use Rattle.walk.specs.declared.Closed.{Closed}
+use Rattle.walk.specs.declared.Cursor.{Cursor}
+use Rattle.walk.specs.declared.Log.{Log}
+use Rattle.walk.specs.declared.Query.{Query}
+use Rattle.walk.specs.declared.Step.{Step}
+use Rattle.walk.specs.declared.Step.the-variants.{End, Damage, Pass, Visit}
+use Rattle.walk.specs.Seek.{headerAt}
+
+-- ---- from segment to segment
+
+-- "A closed segment is passed over if its load span misses the range or, for equal loads, if some hash bit is clear in all sections."
+unfoldable pub isPassed : List ℕ → ℕ → Header → Query → Bool
+isPassed nand slot h q =
+    (ltb (h .high) (q .k1) || ltb (q .k2) (h .low))
+    || (not (ltb (q .k1) (q .k2)) && not (mayHold (sectionsIn (pagesOf nand slot 29 2) (sectionCount (h .count))) (q .k1)))
+
+-- "Then level 1, until a start ≤ t1 has been done."
+abbrev pub cursorAfter : Header → Query → Cursor
+cursorAfter h q = record { good = true; last = leb (h .start) (q .t1); next = getD (h .next) 0 Skip.none; before = h .serial }
+
+abbrev pub closedOf : ℕ → Header → Closed
+closedOf slot h = record { slot = slot; count = h .count; buckets = h .buckets }
+
+-- one segment on: the end, damage in its header, a segment passed over, or one whose tree is searched
+unfoldable pub advanceOf : List ℕ → ℕ → ℕ → Query → Cursor → Step
+advanceOf nand slots live q c =
+    let p = c .next in
+    let h = headerAt nand slots p (c .before) in
+    cond (c .last || not (Skip.isLive p live)) End
+    (cond (not (h .good)) Damage
+    (cond (isPassed nand (p .slot) h q) (Pass (cursorAfter h q)) (Visit (closedOf (p .slot) h) (cursorAfter h q))))
+
+-- ---- one segment
+
+-- a time from t1 to t2
+abbrev pub timely : Query → ℕ → Bool
+timely q t = leb (q .t1) t && leb t (q .t2)
+
+-- the places, lowest first, of those positions whose times are from t1 to t2
+unfoldable pub timed : (ℕ → ℕ) → Query → List ℕ → List ℕ
+timed time q ps = picked (λ p. elem p ps && timely q (time p)) 0 320
+
+abbrev pub timedOf : (ℕ → ℕ) → Query → Option (List ℕ) → Option (List ℕ)
+timedOf time q none = none
+timedOf time q (some ps) = some (timed time q ps)
+
+-- the matches of a segment whose records stand in `lifts`, those from place `first` on in `tail`; none where damage is met
+unfoldable pub matchesOf : List ℕ → List ℕ → List ℕ → ℕ → ℕ → ℕ → Query → Option (List ℕ)
+matchesOf tree lifts tail first count buckets q =
+    timedOf (timeIn lifts tail first) q (sweepOn tree buckets count (codeIn lifts tail first) (q .k1) (q .k2))
+
+-- of a closed segment
+abbrev pub closedLifts : List ℕ → Closed → List ℕ
+closedLifts nand s = pagesOf nand (s .slot) 0 20
+
+unfoldable pub closedMatches : List ℕ → Closed → Query → Option (List ℕ)
+closedMatches nand s q =
+    matchesOf (pagesOf nand (s .slot) 20 9) (closedLifts nand s) (closedLifts nand s) 320 (s .count) (s .buckets) q
+
+-- of the open segment: its full pages are in NAND, the rest in the page buffer
+abbrev pub openLifts : List ℕ → Log → List ℕ
+openLifts nand g = pagesOf nand (slotOf (g .current) (g .slots)) 0 20
+
+abbrev pub firstBuffered : ℕ → ℕ
+firstBuffered count = count / 16 * 16
+
+unfoldable pub openMatches : List ℕ → List ℕ → List ℕ → Log → Query → Option (List ℕ)
+openMatches nand nor page g q =
+    matchesOf (norTree nor) (openLifts nand g) page (firstBuffered (g .count)) (g .count) (g .buckets) q
+
+-- the rows of matches: their records
+abbrev pub rowsAt : (ℕ → List ℕ) → Option (List ℕ) → Option (List (List ℕ))
+rowsAt record' none = none
+rowsAt record' (some ps) = some (map record' ps)
+
+unfoldable pub closedRows : List ℕ → Closed → Query → Option (List (List ℕ))
+closedRows nand s q = rowsAt (recordIn (closedLifts nand s) (closedLifts nand s) 320) (closedMatches nand s q)
+
+-- none where the open segment has no lifts
+unfoldable pub openRows : List ℕ → List ℕ → List ℕ → Log → Query → Option (List (List ℕ))
+openRows nand nor page g q =
+    cond (eqb (g .count) 0) (some [])
+    (rowsAt (recordIn (openLifts nand g) page (firstBuffered (g .count))) (openMatches nand nor page g q))

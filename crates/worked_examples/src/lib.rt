@@ -1,0 +1,1 @@
+// The worked examples of document 01 ("What the contracts settle"), as one theorem over the definitions that the contracts cite.
