@@ -1,7 +1,7 @@
 -- The tree of any loads, load by load: it keeps the invariant, and grows by `insert`. Assumes nothing.
-use Prim.Native.Nat.{ℕ, zero, suc, _+_, _-_, _≤_, _<_}
+use Prim.Native.Nat.{ℕ, _+_, _-_, _≤_, _<_}
 use mathlib.Core.Path.{_≡_, refl, sym, _∙_, ap, subst}
-use mathlib.Core.Bool.{Bool, true, false, cond}
+use mathlib.Core.Bool.{Bool, true, false}
 use mathlib.Core.Option.{Option, none, some}
 use mathlib.Core.List.{List, [], _∷_, _++_, append-nil, append-assoc}
 use native.Mathlib.Omega.{arith}
@@ -9,7 +9,6 @@ use lib.Dec.{ltb}
 use lib.ListN.{length, drop, length-append, length-drop}
 use lib.Seq.{drop-append-le, drop-drop}
 use borrow.Author.Tests.{ltb-false}
-use Rattle.split.specs.Split.{midpoint}
 use Rattle.tree.specs.Rules.{Entry, Bucket, Kids, whole, split, at, descend, allocate, put, lastLoads, insert, insertMore}
 use Rattle.tree.specs.Rules.{treeOf, needsBucket36, Loads}
 use Rattle.tree.proofs.Held.{Housed, Both, Inv}
@@ -18,8 +17,8 @@ use Rattle.tree.proofs.Insert.{insert-inv, empty-inv}
 
 -- ---- the invariant
 
-more-inv : (more ls hs : List ℕ) (t : List Bucket) → Inv ls hs t → Loads more → (t′ : List Bucket) → insertMore ls t more ≡ some t′
-    → (hs′ : List ℕ) × Inv (ls ++ more) hs′ t′
+more-inv : (more ls hs : List ℕ) (t : List Bucket) → Inv ls hs t → Loads more
+    → (t′ : List Bucket) → insertMore ls t more ≡ some t′ → (hs′ : List ℕ) × Inv (ls ++ more) hs′ t′
 unfolding insertMore
 more-inv [] ls hs t v ok t′ e =
     let e′ : t ≡ t′ = cc in

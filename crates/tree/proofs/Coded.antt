@@ -1,15 +1,15 @@
--- One bucket in bytes: what is written is read back. Every field stands at a fixed offset, so its bytes are found by computation;
--- only the entries take the law of places. Assumes nothing.
-use Prim.Native.Nat.{ℕ, zero, suc, _+_, _*_, _^_, _≤_, _<_}
+-- One bucket in bytes: what is written is read back. Every field stands at a fixed offset, so its bytes are found by
+-- computation; only the entries take the law of places. Assumes nothing.
+use Prim.Native.Nat.{ℕ, zero, suc, _+_, _*_, _≤_, _<_}
 use mathlib.Core.Path.{_≡_, refl, sym, ap, ap₂, _∙_}
-use mathlib.Core.Bool.{Bool, true, false, cond}
+use mathlib.Core.Bool.{cond}
 use mathlib.Core.Option.{Option, none, some}
-use mathlib.Core.List.{List, [], _∷_, _++_}
+use mathlib.Core.List.{List, _++_}
 use native.Mathlib.Omega.{arith}
 use lib.Dec.{ltb, eqb}
 use lib.ListN.{length, getD, drop, length-append, drop-of-length-le}
 use lib.Seq.{drop-cons}
-use borrow.Author.Tests.{ltb-true, ltb-false, eq-eqb, ne-eqb}
+use borrow.Author.Tests.{ltb-true, ltb-false, ne-eqb}
 use Rattle.codec.specs.Area.{part, repeated}
 use Rattle.codec.specs.Number.{le, bytes, numberAt}
 use Rattle.codec.proofs.Areas.{part-part, part-append-right}
@@ -27,7 +27,9 @@ length-entry e = refl
 -- the 24 bytes before the entries
 abbrev pub headBytes : Bucket → List ℕ
 headBytes b =
-    bytes 4 (b .x) ++ bytes 4 (b .y) ++ bytes 4 (midNumber (b .kids)) ++ bytes 1 (leftNumber (b .kids)) ++ bytes 1 (rightNumber (b .kids))
+    bytes 4 (b .x) ++ bytes 4 (b .y) ++ bytes 4 (midNumber (b .kids))
+    ++ bytes 1 (leftNumber (b .kids))
+    ++ bytes 1 (rightNumber (b .kids))
     ++ repeated 10 255
 
 pub length-head : (b : Bucket) → length (headBytes b) ≡ 24

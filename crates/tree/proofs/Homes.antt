@@ -1,9 +1,9 @@
 -- Each position stands once in the bucket that is its home, with its load, and in no other bucket. Assumes nothing.
 use Prim.Native.Nat.{ℕ, zero, suc, _+_, _≤_, _<_}
-use mathlib.Core.Path.{_≡_, refl, sym, _∙_, ap}
+use mathlib.Core.Path.{_≡_, refl, _∙_, ap}
 use mathlib.Core.Bool.{Bool, true, false, cond}
 use mathlib.Core.Logic.{_⊎_, inl, inr}
-use mathlib.Core.List.{List, [], _∷_, _++_, List·Memᴰ, List·Memᴰ·head, List·Memᴰ·tail, List·Memᴰ·not-nil, List·Memᴰ·cases-cons}
+use mathlib.Core.List.{List, [], _∷_, List·Memᴰ, List·Memᴰ·not-nil, List·Memᴰ·cases-cons}
 use native.Mathlib.Omega.{arith}
 use lib.Dec.{eqb}
 use lib.ListN.{length, getD}
@@ -110,7 +110,8 @@ module _ (k1 k2 p : ℕ) where
   cond-zero false n e = refl
 
   -- a position that none of the loads has
-  times-absent : (i q : ℕ) (hs ls : List ℕ) → ((k : ℕ) → k < length ls → q + k ≡ p → ⊥) → times p (hits k1 k2 (home i q hs ls)) ≡ 0
+  times-absent : (i q : ℕ) (hs ls : List ℕ) → ((k : ℕ) → k < length ls → q + k ≡ p → ⊥)
+      → times p (hits k1 k2 (home i q hs ls)) ≡ 0
   unfolding times hits
   times-absent i q [] ls f = refl
   times-absent i q (h ∷ hs) [] f = refl

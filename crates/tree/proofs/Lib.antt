@@ -13,3 +13,6 @@ pub mod Swept
 pub mod Planned
 pub mod Fields
 pub mod Written
+pub mod Inserted
+pub mod Clears
+pub mod ByteExamples
