@@ -2,3 +2,4 @@ pub mod Fields
 pub mod Tests
 pub mod HeaderBytes
 pub mod Turns
+pub mod ClosedPages
