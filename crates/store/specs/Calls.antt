@@ -14,6 +14,7 @@ use Rattle.skiplist.specs.Skip.{none}
 use Rattle.segment.specs.Pages.{closeErased}
 use Rattle.tree.specs.Plan.{Plan, damaged, noRoom, newRoot, intoBucket, newChild, splitBucket, planOn}
 use Rattle.tree.specs.Writes.{writesOf, allClear}
+use Rattle.bounds.specs.Grounds.{ground, nandBad, norBad, formatGround, liftGround}
 use Rattle.store.specs.declared.State.{State}
 use Rattle.store.specs.Bounds.{withinBounds}
 use Rattle.store.specs.World.{World, closeWorld, dropWorld, putWorld, nextOldest, closedRemains, fillsPage, fillsSection, sectionStart}
@@ -23,21 +24,9 @@ pub record Outcome : Type 0 where
   pub number : ℕ
   pub world : World
 
--- number n if the ground holds, else what the later grounds give
-abbrev pub ground : ℕ → Bool → ℕ → ℕ
-ground n holds rest = cond holds n rest
-
 -- "A refusal returns its number alone and alters nothing."
 abbrev pub outcome : ℕ → World → World → Outcome
 outcome number before after = record { number = number; world = cond (eqb number 0) after before }
-
--- "1. S is outside 2 to 4,096, or NAND length is not S slots."
-abbrev pub nandBad : ℕ → ℕ → Bool
-nandBad nandLength slots = ltb slots 2 || (ltb 4096 slots || not (eqb nandLength (slots * 16384)))
-
--- "2. NOR length is not 6,144."
-abbrev pub norBad : ℕ → Bool
-norBad norLength = not (eqb norLength 6144)
 
 -- ---- format
 
@@ -58,9 +47,6 @@ formatted = record {
   low = pos 0;
   high = pos 0;
 }
-
-unfoldable pub formatGround : ℕ → ℕ → ℕ → ℕ
-formatGround nandLength norLength slots = ground 1 (nandBad nandLength slots) (ground 2 (norBad norLength) 0)
 
 -- "Format erases both chips"; a refused one hands back the formatted state and leaves the chips
 unfoldable pub formatOutcome : List ℕ → List ℕ → ℕ → Outcome
@@ -155,13 +141,10 @@ appendUnerased w r slots p =
 unfoldable pub appendGround : World → ℕ → ℕ → ℤ → ℕ
 appendGround w slots time load =
     stateGround w slots
-    (ground 4 (not (timeOk time))
-    (ground 5 (not (loadOk load))
-    (ground 7 (ltb time (w .state .next))
-    (ground 8 (leb 999999998 (w .state .current))
+    (liftGround time load (w .state .next) (w .state .current)
     (ground 10 (appendDamage (roomWorld w slots (planOf w load)) slots load (planOf w load))
     (ground 11 (appendUnerased w (roomWorld w slots (planOf w load)) slots (planOf w load))
-    0))))))
+    0)))
 
 -- a close if it is due, a drop if it is due, then the lift
 unfoldable pub appendWorld : World → ℕ → ℕ → ℤ → List ℕ → World
