@@ -10,8 +10,8 @@ use lib.ListN.{length, drop, length-append, length-drop}
 use lib.Seq.{drop-append-le, drop-drop}
 use borrow.Author.Tests.{ltb-false}
 use Rattle.tree.specs.Rules.{Entry, Bucket, Kids, whole, split, at, descend, allocate, put, lastLoads, insert, insertMore}
-use Rattle.tree.specs.Rules.{treeOf, needsBucket36, Loads}
-use Rattle.tree.proofs.Held.{Housed, Both, Inv}
+use Rattle.tree.specs.Rules.{treeOf, needsBucket36, bucketsOf, root, Loads}
+use Rattle.tree.proofs.Held.{Good, Housed, Both, Inv}
 use Rattle.tree.proofs.Descent.{if, none-some}
 use Rattle.tree.proofs.Insert.{insert-inv, empty-inv}
 
@@ -40,6 +40,14 @@ more-inv (l ∷ more) ls hs t v ok t′ e = go (insert ls t l) refl e (more-inv 
 pub built-inv : (ls : List ℕ) → Loads ls → (t : List Bucket) → treeOf ls ≡ some t → (hs : List ℕ) × Inv ls hs t
 unfolding treeOf
 built-inv ls ok t e = more-inv ls [] [] [] empty-inv ok t e
+
+-- every bucket: its range, its mid, its children's numbers and ranges, at most 13 entries
+pub built-good : (ls : List ℕ) → Loads ls → (t : List Bucket) → treeOf ls ≡ some t → (i : ℕ) → Good t i (at t i)
+built-good ls ok t e i = built-inv ls ok t e .1 .good i
+
+pub buckets-of : (ls : List ℕ) (t : List Bucket) → treeOf ls ≡ some t → bucketsOf ls ≡ t
+unfolding bucketsOf
+buckets-of ls t e = ap (λ (o : Option (List Bucket)). elim o [ none ↦ [] | some u ↦ u ]) e
 
 -- ---- one load more
 
@@ -136,6 +144,10 @@ module _ (ls : List ℕ) (l : ℕ) (t : List Bucket) (e : treeOf ls ≡ some t) 
 pub tree-of-none : treeOf [] ≡ some []
 unfolding treeOf insertMore
 tree-of-none = refl
+
+pub tree-of-one : (l : ℕ) → treeOf (l ∷ []) ≡ some (root (record { load = l; position = 0 } ∷ []) ∷ [])
+unfolding treeOf insertMore insert
+tree-of-one l = refl
 
 pub first-fits : (l : ℕ) → needsBucket36 [] l ≡ false
 unfolding needsBucket36 treeOf insertMore insert

@@ -25,7 +25,7 @@ use Rattle.tree.proofs.Held.{Halves, Both, home, Housed, Inv}
 use Rattle.tree.proofs.Descent.{if, End}
 use Rattle.tree.proofs.Insert.{home-bucket, no-loads}
 use Rattle.tree.proofs.Grown.{cond-none}
-use Rattle.tree.proofs.Built.{built-inv, tree-snoc, needs-none, counted-inv}
+use Rattle.tree.proofs.Built.{built-inv, tree-snoc, needs-none, needs-not, counted-inv}
 use Rattle.tree.proofs.Coded.{nodeOf}
 use Rattle.tree.proofs.Planned.{plan-inv}
 use Rattle.tree.proofs.Written.{halved, clear-range, clear-first, clear-entry, clear-mid, clear-whole, clear-missing}
@@ -185,6 +185,17 @@ root-done rest l p small =
       buckets = refl;
     }
 
+-- after a close the load begins a new tree, in erased bytes, as its first load does
+pub fresh-clear : (rest : List ℕ) (n l p : ℕ) → l < 4294967296 → allClear (treeBytes [] ++ rest) (writesOf noRoom n l p) ≡ true
+unfolding writesOf
+fresh-clear rest n l p small = root-done rest l p small .clear
+
+pub fresh-written : (rest : List ℕ) (n l p : ℕ) → l < 4294967296
+    → allWritten (treeBytes [] ++ rest) (writesOf noRoom n l p)
+    ≡ treeBytes (root (record { load = l; position = p } ∷ []) ∷ []) ++ rest
+unfolding writesOf
+fresh-written rest n l p small = root-done rest l p small .written
+
 -- ---- the plan against the insert
 
 outcome-if : (t u : List Bucket) (rest : List ℕ) (l p : ℕ) (plan : Plan) (b : Bool) → (b ≡ true → Done t u rest l p plan)
@@ -249,3 +260,16 @@ module _ (ls : List ℕ) (ok : Loads ls) (open-end : length ls < 320) (t : List 
   plan-done rest u f =
       subst (λ (o : Option (List Bucket)). Outcome t rest l (length ls) o (planOn (treeBytes t) (length t) (length ls) loads l))
       (sym (tree-snoc ls l t e) ∙ f) (outcome rest)
+
+  -- no damage is met, and the segment is closed exactly where bucket 36 is needed
+  pub plan-sound : isDamaged (planOn (treeBytes t) (length t) (length ls) loads l) ≡ false
+  plan-sound =
+      if (needsBucket36 ls l)
+      (λ f. ap isDamaged (plan-needs f))
+      (λ f. plan-done [] _ (needs-not ls l t e f .2) .sound)
+
+  pub plan-room : isNoRoom (planOn (treeBytes t) (length t) (length ls) loads l) ≡ needsBucket36 ls l
+  plan-room =
+      if (needsBucket36 ls l)
+      (λ f. rw f (ap isNoRoom (plan-needs f)))
+      (λ f. rw f (plan-done [] _ (needs-not ls l t e f .2) .roomy))

@@ -5,6 +5,7 @@ pub mod Insert
 pub mod Built
 pub mod Homes
 pub mod Search
+pub mod Found
 pub mod Examples
 pub mod Places
 pub mod Coded

@@ -30,6 +30,32 @@ splice-right p q k to r e =
     (ap (λ (s : List ℕ). s ++ drop (k + length r) q) (append-assoc p (take k q) r)
     ∙ append-assoc p (take k q ++ r) (drop (k + length r) q))
 
+-- ---- bytes
+
+-- every member of a list is a byte
+abbrev pub Bytes : List ℕ → Type 0
+Bytes p = (i : ℕ) → getD p i 0 < 256
+
+pub bytes-append : (p q : List ℕ) → Bytes p → Bytes q → Bytes (p ++ q)
+bytes-append [] q f g i = g i
+bytes-append (b ∷ p) q f g zero = f 0
+bytes-append (b ∷ p) q f g (suc i) = bytes-append p q (λ j. f (suc j)) g i
+
+pub bytes-repeated : (n v : ℕ) → v < 256 → Bytes (repeated n v)
+unfolding repeated
+bytes-repeated zero v h i = omega arith
+bytes-repeated (suc n) v h zero = h
+bytes-repeated (suc n) v h (suc i) = bytes-repeated n v h i
+
+pub bytes-places : {A : Type 0} (w : ℕ) (code : A → List ℕ) → ((a : A) → Bytes (code a)) → (n : ℕ) (items : List A)
+    → Bytes (places w code n items)
+unfolding places
+bytes-places w code f zero items i = omega arith
+bytes-places w code f (suc n) [] i =
+    bytes-append (repeated w 255) (places w code n []) (bytes-repeated w 255 (omega arith)) (bytes-places w code f n []) i
+bytes-places w code f (suc n) (a ∷ items) i =
+    bytes-append (code a) (places w code n items) (f a) (bytes-places w code f n items) i
+
 -- ---- places
 
 module _ {A : Type 0} (w : ℕ) (code : A → List ℕ) (wide : (a : A) → length (code a) ≡ w) where

@@ -1,23 +1,23 @@
 -- The writes of an insertion into the bytes of a tree give the bytes of the grown tree, and go over bytes that are 255.
 -- Each write stays within one place. Assumes nothing.
-use Prim.Native.Nat.{ℕ, _+_, _-_, _*_, _≤_, _<_}
+use Prim.Native.Nat.{ℕ, zero, suc, _+_, _-_, _*_, _≤_, _<_, min}
 use mathlib.Core.Path.{_≡_, sym, ap, _∙_}
 use mathlib.Core.Bool.{Bool, true, false, cond}
 use mathlib.Core.Option.{Option, none}
-use mathlib.Core.List.{List, [], _∷_, _++_}
+use mathlib.Core.List.{List, [], _∷_, _++_, append-nil}
 use native.Mathlib.Omega.{arith}
 use lib.ListN.{length, set, length-append}
 use lib.Seq.{set-append-seam, getD-append-seam}
 use Rattle.codec.specs.Area.{part, splice, repeated, allOnes}
 use Rattle.codec.specs.Number.{bytes}
-use Rattle.codec.proofs.Areas.{part-all, part-part, part-append-left, part-repeated, ones-repeated}
+use Rattle.codec.proofs.Areas.{part-all, part-add, part-part, part-append-left, part-repeated, ones-repeated}
 use Rattle.codec.proofs.Numbers.{length-bytes}
 use Rattle.tree.specs.Rules.{Entry, Bucket, Kids, whole, split, root, at, added, linked}
 use Rattle.tree.specs.Bytes.{bucketBytes, treeBytes, bucketPage, bucketOffset}
 use Rattle.tree.specs.Writes.{pair, midWrite, childWrite, rangeWrite, entryWrite, isClear, written}
-use Rattle.tree.proofs.Places.{splice-left, length-places, places-none, rest-free, place-used, place-free}
-use Rattle.tree.proofs.Places.{write-used, write-new}
-use Rattle.tree.proofs.Coded.{length-bucket}
+use Rattle.tree.proofs.Places.{Bytes, bytes-places, splice-left, length-places, places-none, rest-free}
+use Rattle.tree.proofs.Places.{place-used, place-free, write-used, write-new}
+use Rattle.tree.proofs.Coded.{length-bucket, bytes-bucket}
 use Rattle.tree.proofs.Fields.{bucket, mid-written, left-written, right-written, range-written, added-written}
 use Rattle.tree.proofs.Fields.{mid-clear, whole-clear, left-clear, right-clear, entry-clear}
 
@@ -25,15 +25,42 @@ pub length-tree : (t : List Bucket) → length (treeBytes t) ≡ 4608
 unfolding treeBytes
 length-tree t = length-places 128 bucketBytes length-bucket 36 t
 
+pub bytes-tree : (t : List Bucket) → Bytes (treeBytes t)
+unfolding treeBytes
+bytes-tree t = bytes-places 128 bucketBytes bytes-bucket 36 t
+
 -- a tree without buckets is erased, and so are the places past the last bucket
 pub tree-none : treeBytes [] ≡ repeated 4608 255
 unfolding treeBytes
 tree-none = places-none 128 bucketBytes length-bucket 36
 
-pub tree-rest : (t : List Bucket) (at n : ℕ) → length t ≤ 36 → 128 * length t ≤ at → at + n ≤ 4608
-    → part (treeBytes t) at n ≡ repeated n 255
+pub tree-rest : (t : List Bucket) (from n : ℕ) → length t ≤ 36 → 128 * length t ≤ from → from + n ≤ 4608
+    → part (treeBytes t) from n ≡ repeated n 255
 unfolding treeBytes
-tree-rest t at n few h k = rest-free 128 bucketBytes length-bucket 36 t at n few h k
+tree-rest t from n few h k = rest-free 128 bucketBytes length-bucket 36 t from n few h k
+
+-- a part of the tree's bytes: what the buckets reach into it, then 255
+pub tree-part : (t : List Bucket) (rest : List ℕ) (from m : ℕ) → length t ≤ 36 → from + m ≤ 4608
+    → part (treeBytes t ++ rest) from (min m (length t * 128 - from)) ++ repeated (m - min m (length t * 128 - from)) 255
+    ≡ part (treeBytes t) from m
+unfolding repeated
+tree-part t rest from m few h =
+    go (min m (length t * 128 - from)) (m - min m (length t * 128 - from)) (omega arith) (λ p. omega arith)
+  where
+    go : (k r : ℕ) → k + r ≡ m → (0 < r → 128 * length t ≤ from + k)
+        → part (treeBytes t ++ rest) from k ++ repeated r 255 ≡ part (treeBytes t) from m
+    go k zero e f =
+        let l = length-tree t in
+        let s : k ≡ m = omega arith in
+        rw s (append-nil (part (treeBytes t ++ rest) from m) ∙ part-append-left (treeBytes t) rest from m (omega arith))
+    go k (suc r) e f =
+        let l = length-tree t in
+        rw (
+          part-append-left (treeBytes t) rest from k (omega arith),
+          ← e,
+          part-add (treeBytes t) from k (suc r),
+          tree-rest t (from + k) (suc r) few (f (omega arith)) (omega arith),
+        )
 
 -- the buckets' part of NOR
 pub tree-of-nor : (t : List Bucket) (rest : List ℕ) → part (treeBytes t ++ rest) 0 4608 ≡ treeBytes t

@@ -1,0 +1,5 @@
+pub mod Fields
+pub mod Tests
+pub mod HeaderBytes
+pub mod Turns
+pub mod ClosedPages
