@@ -1,0 +1,3 @@
+pub mod Good
+pub mod Lengths
+pub mod PageLengths
