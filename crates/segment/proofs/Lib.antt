@@ -3,3 +3,4 @@ pub mod Tests
 pub mod HeaderBytes
 pub mod Turns
 pub mod ClosedPages
+pub mod HeaderRead
