@@ -4,3 +4,4 @@ pub mod HeaderBytes
 pub mod Turns
 pub mod ClosedPages
 pub mod HeaderRead
+pub mod HeaderSound
