@@ -3,3 +3,5 @@ pub mod Tests
 pub mod HeaderBytes
 pub mod Turns
 pub mod ClosedPages
+pub mod HeaderRead
+pub mod HeaderSound
