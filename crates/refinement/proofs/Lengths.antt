@@ -8,12 +8,13 @@ use lib.ListN.{length, drop, getD, length-append, length-drop, length-map}
 use Rattle.codec.specs.Area.{part, repeated}
 use Rattle.codec.proofs.Areas.{length-repeated, length-part}
 use Rattle.lift.specs.Limits.{stored}
+use Rattle.lift.proofs.Codes.{within-limits}
 use Rattle.lift.proofs.Records.{length-record}
 use Rattle.bloom.specs.Bloom.{sectionOf}
 use Rattle.bloom.specs.Pages.{each}
 use Rattle.bloom.proofs.Each.{length-each}
 use Rattle.bloom.proofs.Section.{length-sectionOf}
-use Rattle.tree.specs.Rules.{bucketsOf}
+use Rattle.tree.specs.Rules.{bucketsOf, Loads}
 use Rattle.tree.proofs.Written.{length-tree}
 use Rattle.search.specs.Answers.{rowBytes}
 use Rattle.search.proofs.Rows.{Wide, length-rows}
@@ -82,3 +83,10 @@ length-nor ls few =
     length-append (treeArea ls) (wholeSections (codes ls) ++ repeated (1536 - length (wholeSections (codes ls))) 255)
     ∙ omega (arith, length-append (wholeSections (codes ls)) (repeated (1536 - length (wholeSections (codes ls))) 255),
     length-repeated (1536 - length (wholeSections (codes ls))) 255)
+
+-- the loads of good lifts, as stored
+pub good-loads : (ls : List Lift) → GoodLifts ls → Loads (codes ls)
+good-loads [] g = tt
+good-loads (l ∷ ls) g =
+    let s = within-limits (l .load) (g .0 .load) in
+    (s .low, s .high, good-loads ls (g .1))
