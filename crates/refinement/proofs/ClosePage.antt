@@ -79,7 +79,7 @@ module _ (ls : List Lift) (g : GoodLifts ls) where
 -- ---- the closed segment
 
 module _ (ls : List Lift) (b : Built ls) where
-  few-buckets : bucketCount ls ≤ 36
+  pub few-buckets : bucketCount ls ≤ 36
   few-buckets = omega (arith, ap length (buckets-of (codes ls) (b .tree) (b .is)), counted (codes ls) (good-loads ls (b .lifts)) (b .tree) (b .is) .few)
 
   -- tree page i

@@ -81,8 +81,11 @@ length-nor ls few =
     let s = length-sections (codes ls) in
     let c = length-codes ls in
     length-append (treeArea ls) (wholeSections (codes ls) ++ repeated (1536 - length (wholeSections (codes ls))) 255)
-    ∙ omega (arith, length-append (wholeSections (codes ls)) (repeated (1536 - length (wholeSections (codes ls))) 255),
-    length-repeated (1536 - length (wholeSections (codes ls))) 255)
+    ∙ omega (
+      arith,
+      length-append (wholeSections (codes ls)) (repeated (1536 - length (wholeSections (codes ls))) 255),
+      length-repeated (1536 - length (wholeSections (codes ls))) 255,
+    )
 
 -- the loads of good lifts, as stored
 pub good-loads : (ls : List Lift) → GoodLifts ls → Loads (codes ls)

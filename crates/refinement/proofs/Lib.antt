@@ -4,3 +4,4 @@ pub mod PageLengths
 pub mod Slots
 pub mod ClosePage
 pub mod PageFrom
+pub mod Close

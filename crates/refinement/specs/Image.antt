@@ -41,13 +41,13 @@ unfoldable pub nandImage : History → List ℕ
 nandImage h = rowBytes (each (λ k. pageImage h (k / 32) (k % 32)) 0 (h .log .slots * 32))
 
 -- "The oldest live time is the start of the oldest retained lift, or next time if there is none."
-unfoldable pub liveOf : Log → ℕ
+abbrev pub firstStart : List (List Lift) → List Lift → ℕ → ℕ
+firstStart [] [] next = next
+firstStart [] (l ∷ ls) next = l .time
+firstStart (ls ∷ rest) current next = startTime ls
+
+abbrev pub liveOf : Log → ℕ
 liveOf g = firstStart (g .closed) (g .current) (g .next)
-  where
-    firstStart : List (List Lift) → List Lift → ℕ → ℕ
-    firstStart [] [] next = next
-    firstStart [] (l ∷ ls) next = l .time
-    firstStart (ls ∷ rest) current next = startTime ls
 
 unfoldable pub stateImage : History → State
 stateImage h = record {
