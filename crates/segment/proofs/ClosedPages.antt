@@ -25,6 +25,7 @@ pub record Shaped (nor : List ℕ) (c : Closing) : Type 0 where
   pub few : c .buckets ≤ 36
   pub heads-four : length (c .heads) ≡ 4
   pub page-size : length (c .page) ≡ 512
+  pub bloom-size : length (c .bloom) ≡ 128
 
 -- ---- lengths
 

@@ -5,3 +5,5 @@ pub mod Turns
 pub mod ClosedPages
 pub mod HeaderRead
 pub mod HeaderSound
+pub mod TreeArea
+pub mod ReadBack
