@@ -7,3 +7,5 @@ pub mod HeaderRead
 pub mod HeaderSound
 pub mod TreeArea
 pub mod ReadBack
+pub mod LiftsRead
+pub mod Clearing
