@@ -23,11 +23,11 @@ and-intro : (a b : Bool) → a ≡ true → b ≡ true → (a && b) ≡ true
 and-intro true b e f = f
 and-intro false b e f = e
 
-and-left : (a b : Bool) → (a && b) ≡ true → a ≡ true
+pub and-left : (a b : Bool) → (a && b) ≡ true → a ≡ true
 and-left true b e = refl
 and-left false b e = e
 
-and-right : (a b : Bool) → (a && b) ≡ true → b ≡ true
+pub and-right : (a b : Bool) → (a && b) ≡ true → b ≡ true
 and-right true b e = e
 and-right false b e = cc
 

@@ -8,4 +8,5 @@ pub mod HeaderSound
 pub mod TreeArea
 pub mod ReadBack
 pub mod LiftsRead
+pub mod ImageBytes
 pub mod Clearing
