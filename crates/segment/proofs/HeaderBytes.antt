@@ -1,12 +1,12 @@
 -- A header page written field by field: writes side by side are one write. Assumes nothing.
-use mathlib.Core.Path.{_≡_, refl, sym, ap, _∙_}
+use mathlib.Core.Path.{_≡_, ap, _∙_}
 use mathlib.Core.List.{List, [], _∷_, _++_, append-assoc}
 use Prim.Native.Nat.{ℕ, _+_, _-_, _*_, _≤_, _<_, min}
 use native.Mathlib.Omega.{arith}
-use lib.ListN.{length, drop, length-append}
+use lib.ListN.{length, length-append}
 use Rattle.codec.specs.Area.{part, splice, repeated}
 use Rattle.codec.specs.Number.{bytes}
-use Rattle.codec.proofs.Areas.{splice-next, length-repeated, part-repeated, length-part}
+use Rattle.codec.proofs.Areas.{length-repeated, length-part}
 use Rattle.codec.proofs.Numbers.{length-bytes}
 use Rattle.bloom.specs.Pages.{sectionCount, fragmentLength}
 use Rattle.bloom.proofs.Fragments.{fragment-length}
@@ -18,7 +18,7 @@ use Rattle.skiplist.proofs.Nodes.{length-node}
 use Rattle.segment.specs.declared.Closing.{Closing}
 use Rattle.segment.specs.Header.{countBytes, spanBytes, headerPage}
 use Rattle.segment.specs.Pages.{treePage}
-use Rattle.segment.proofs.Fields.{joined, putAll, fields-put, front-put}
+use Rattle.segment.proofs.Fields.{putAll, fields-put, front-put}
 
 pub level-most : (serial : ℕ) → levelOf serial ≤ 4
 unfolding levelOf

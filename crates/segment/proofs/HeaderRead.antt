@@ -1,13 +1,12 @@
 -- A header page read back gives what was written, and a sound closing's header has no damage: each field is read where it starts. Assumes nothing.
 use mathlib.Core.Path.{_≡_, refl, sym, ap, _∙_}
-use mathlib.Core.Bool.{Bool, true, false, _&&_, _||_}
-use mathlib.Core.List.{List, [], _∷_, _++_, append-assoc}
-use Prim.Native.Nat.{ℕ, zero, suc, _+_, _-_, _*_, _^_, _≤_, _<_}
+use mathlib.Core.Bool.{Bool, _&&_}
+use mathlib.Core.List.{List, [], _∷_, append-assoc}
+use Prim.Native.Nat.{ℕ, _+_, _-_, _^_, _≤_, _<_}
 use native.Mathlib.Decide.{decLt}
 use native.Mathlib.Omega.{arith}
-use lib.Dec.{eqb, leb, ltb}
-use lib.ListN.{length, getD, take, replicate}
-use borrow.Author.Tests.{lt-ltb, le-leb, eq-eqb, ltb-true, leb-true, eqb-true}
+use lib.Dec.{ltb}
+use lib.ListN.{length, getD}
 use Rattle.codec.specs.Area.{part, repeated}
 use Rattle.codec.specs.Number.{le, bytes, numberAt}
 use Rattle.codec.proofs.Numbers.{length-bytes, le-bytes}
@@ -19,7 +18,7 @@ use Rattle.skiplist.proofs.Pointers.{PointerFits, pointers-decoded}
 use Rattle.skiplist.proofs.Nodes.{length-node, node-below, node-above}
 use Rattle.segment.specs.declared.Closing.{Closing}
 use Rattle.segment.specs.declared.Header.{Header}
-use Rattle.segment.specs.Header.{countBytes, spanBytes, headerPage, countsGood, spanGood, pointerGood, pointersGood, headerGood, headerIn}
+use Rattle.segment.specs.Header.{countBytes, spanBytes, headerPage, countsGood, spanGood, pointersGood, headerGood, headerIn}
 use Rattle.segment.proofs.Fields.{joined, startOf, field-read}
 use Rattle.segment.proofs.HeaderBytes.{fragment-fits, level-most, length-node-bytes, length-header}
 

@@ -1,17 +1,17 @@
 -- The header of a closing within its limits is read back without damage: each test of the header holds of what was written. Assumes nothing.
-use mathlib.Core.Path.{_≡_, refl, ap, ap₂, _∙_}
+use mathlib.Core.Path.{_≡_, refl, _∙_}
 use mathlib.Core.Logic.{_⊎_, inl, inr, ⊎-elim}
 use mathlib.Core.Bool.{Bool, true, false, _&&_, _||_}
 use mathlib.Core.List.{List, [], _∷_, _++_}
 use Prim.Native.Nat.{ℕ, zero, suc, _-_, _^_, _≤_, _<_}
 use native.Mathlib.Omega.{arith}
-use lib.Dec.{eqb, leb, ltb}
+use lib.Dec.{eqb, ltb}
 use lib.ListN.{length, getD, take, replicate}
 use borrow.Author.Tests.{lt-ltb, le-leb, eq-eqb, ltb-true, leb-true, eqb-true}
-use Rattle.lift.specs.Limits.{timeOk, timeLimit, codeOk}
+use Rattle.lift.specs.Limits.{timeOk, timeLimit}
 use Rattle.bloom.specs.Pages.{sectionCount, fragmentLength}
 use Rattle.skiplist.specs.declared.Pointer.{Pointer}
-use Rattle.skiplist.specs.Skip.{none, nodeOf, levelOf, inSlots}
+use Rattle.skiplist.specs.Skip.{none, nodeOf, levelOf}
 use Rattle.skiplist.proofs.Pointers.{PointerFits}
 use Rattle.segment.specs.declared.Closing.{Closing}
 use Rattle.segment.specs.Header.{headerPage, countsGood, spanGood, pointerGood, pointersGood, headerIn}

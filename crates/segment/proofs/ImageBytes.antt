@@ -1,16 +1,16 @@
 -- The images that a close programs are bytes: they are made of bytes of numbers, of NOR, of the buffers and of 0 and 255. Assumes nothing.
-use mathlib.Core.Path.{_≡_, refl, sym, ap, _∙_}
+use mathlib.Core.Path.{_≡_, ap, _∙_}
 use mathlib.Core.List.{List, [], _∷_, _++_}
 use Prim.Native.Nat.{ℕ, _+_, _-_, _*_, _≤_, _<_, min}
 use native.Mathlib.Decide.{decLt, decLe}
 use native.Mathlib.Omega.{arith}
-use lib.ListN.{length, getD, take, drop, length-take, List·getD-append, List·getD-eq-default}
+use lib.ListN.{length, getD, drop, length-take, List·getD-append, List·getD-eq-default}
 use lib.Seq.{getD-append-add}
 use Rattle.codec.specs.Area.{part, repeated}
 use Rattle.codec.specs.Number.{bytes}
 use Rattle.codec.proofs.Areas.{getD-part, length-repeated, getD-repeated}
 use Rattle.codec.proofs.Numbers.{bytes-below}
-use Rattle.bloom.specs.Pages.{sectionCount, sectionsFrom, bloomPage, norSection}
+use Rattle.bloom.specs.Pages.{sectionCount, sectionsFrom, bloomPage}
 use Rattle.bloom.proofs.Section.{Bytes}
 use Rattle.bloom.proofs.Fragments.{Length, fragment-length, page-bytes}
 use Rattle.bloom.proofs.Stored.{length-sectionsFrom, whole-section, last-section}

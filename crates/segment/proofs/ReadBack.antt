@@ -1,19 +1,16 @@
 -- What a close programmed is read back: header, Bloom sections, tree and lifts of the slot, in terms of what the close was given. Page by page,
 -- from page-closed. Assumes nothing.
-use mathlib.Core.Path.{_≡_, refl, sym, ap, _∙_}
-use mathlib.Core.Bool.{Bool, true, false, cond, not, _&&_}
-use mathlib.Core.List.{List, [], _++_}
+use mathlib.Core.Path.{_≡_, sym, ap, _∙_}
+use mathlib.Core.Bool.{true, false, cond, not}
+use mathlib.Core.List.{List, _++_}
 use Prim.Native.Nat.{ℕ, suc, _+_, _-_, _*_, _/_, _%_, _≤_, _<_}
-use native.Mathlib.Decide.{decLt, decLe, ℕ-discrete}
+use native.Mathlib.Decide.{decLt}
 use native.Mathlib.Omega.{arith}
-use lib.Dec.{eqb, ltb}
-use lib.ListN.{length, getD}
-use borrow.Author.Tests.{lt-ltb, le-ltb, eq-eqb, ne-eqb}
-use Rattle.codec.specs.Area.{part, splice}
-use Rattle.codec.specs.Number.{le}
-use Rattle.codec.proofs.Areas.{length-part, part-add, part-part, length-splice, part-before, part-inside, part-after, part-splice, agree-at-parts}
+use lib.ListN.{length}
+use borrow.Author.Tests.{lt-ltb, le-ltb}
+use Rattle.codec.specs.Area.{part}
+use Rattle.codec.proofs.Areas.{length-part, part-add, part-part, agree-at-parts}
 use Rattle.flash.specs.Chip.{pageStart, pageOf, pagesOf, erasedPage}
-use Rattle.lift.specs.Rows.{timeIn, codeIn, recordIn}
 use Rattle.bloom.specs.Pages.{sectionCount, sectionsFrom, bloomPage, sectionsIn}
 use Rattle.bloom.proofs.Stored.{length-sectionsFrom, length-section}
 use Rattle.bloom.proofs.Pages.{pages-read-back}
@@ -21,8 +18,8 @@ use Rattle.segment.specs.declared.Closing.{Closing}
 use Rattle.segment.specs.Header.{headerPage}
 use Rattle.segment.specs.Pages.{pageDue, treePage, closePage, closeProgrammed}
 use Rattle.segment.proofs.ClosedPages.{Shaped, length-closed, page-closed}
-use Rattle.segment.proofs.Tests.{due-lifts, due-tree}
-use Rattle.segment.proofs.Turns.{image-lifts, image-tree}
+use Rattle.segment.proofs.Tests.{due-tree}
+use Rattle.segment.proofs.Turns.{image-tree}
 use Rattle.segment.proofs.TreeArea.{treeArea, length-tree-area, area-page, area-bucket, page-past}
 
 -- ---- pages side by side

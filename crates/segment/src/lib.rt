@@ -3,7 +3,7 @@ use flash::Page;
 use skiplist::Pointer;
 ghost use mathlib.Core.Path.{_≡_};
 ghost use mathlib.Core.Bool.{true};
-ghost use Prim.Native.Nat.{ℕ, _+_, _*_, _≤_, _<_, min};
+ghost use Prim.Native.Nat.{_+_, _*_, _≤_, _<_, min};
 ghost use lib.ListN.{length};
 ghost use Rattle.codec.specs.Area.{splice, repeated};
 ghost use Rattle.segment.specs.Header.{countBytes, spanBytes, headerPage, countsGood, spanGood, pointerGood, pointersGood};

@@ -1,5 +1,5 @@
 -- `page_image`: by the kind of the page.
-use mathlib.Core.Path.{refl, sym, _∙_}
+use mathlib.Core.Path.{sym, _∙_}
 use Rattle.segment.proofs.Turns.{image-lifts, image-tree, image-bloom, image-header, tree-due}
 use native.Mathlib.Omega.{arith}
 use borrow.Author.Needs.{needs}
