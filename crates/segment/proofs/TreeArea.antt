@@ -71,7 +71,8 @@ module _ (nor : List ℕ) (buckets : ℕ) (room : 4608 ≤ length nor) (few : bu
       rw e
 
   -- NOR that is 255 past the last bucket
-  pub area-whole : part nor (buckets * 128) (4608 - buckets * 128) ≡ repeated (4608 - buckets * 128) 255 → treeArea nor buckets ≡ norTree nor
+  pub area-whole : part nor (buckets * 128) (4608 - buckets * 128) ≡ repeated (4608 - buckets * 128) 255
+      → treeArea nor buckets ≡ norTree nor
   unfolding treeArea
   area-whole e =
       let n : buckets * 128 + (4608 - buckets * 128) ≡ 4608 = omega arith in

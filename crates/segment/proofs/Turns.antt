@@ -1,5 +1,5 @@
--- What the page functions go by: a page's image by its number, and the turns of the two loops, where what is left to do from page p on
--- gives what the whole gives. Assumes nothing.
+-- What the page functions go by: a page's image by its number, and the turns of the two loops, where what is left to do
+-- from page p on gives what the whole gives. Assumes nothing.
 use mathlib.Core.Path.{_≡_, sym, ap, _∙_}
 use mathlib.Core.Bool.{Bool, true, false, not, _&&_}
 use mathlib.Core.List.{List}

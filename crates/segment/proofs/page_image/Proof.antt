@@ -21,7 +21,8 @@ bloom-page-requires : tie.Need-bloom-page-requires
 bloom-page-requires c κs = search needs
 
 returns-3 : tie.Need-returns-3
-returns-3 c = c .bloom-page .ensures ∙ sym (image-bloom _ _ _ (c .before .before .before .if2 .left) (c .before .before .if3 .taken))
+returns-3 c =
+    c .bloom-page .ensures ∙ sym (image-bloom _ _ _ (c .before .before .before .if2 .left) (c .before .before .if3 .taken))
 
 header-page-requires : tie.Need-header-page-requires
 header-page-requires c κs = search needs
