@@ -5,3 +5,9 @@ pub mod Turns
 pub mod ClosedPages
 pub mod HeaderRead
 pub mod HeaderSound
+pub mod HeaderFacts
+pub mod TreeArea
+pub mod ReadBack
+pub mod LiftsRead
+pub mod ImageBytes
+pub mod Clearing
