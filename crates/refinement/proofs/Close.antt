@@ -26,7 +26,7 @@ use Rattle.paper_log.specs.Log.{Lift, Log, openSerial, closeLog, codes}
 use Rattle.refinement.specs.Segments as S
 use Rattle.refinement.specs.Image.{History, oldestHeads, openHeads, pageImage, nandImage, firstStart, stateImage, image}
 use Rattle.refinement.proofs.Good.{GoodLifts, Built, AllBuilt, Times, none, more, Segments, Starts, Good}
-use Rattle.refinement.proofs.Lengths.{length-nor, length-pageBuffer}
+use Rattle.refinement.proofs.Lengths.{length-nor, length-pageBuffer, length-bloomBuffer}
 use Rattle.refinement.proofs.PageLengths.{four-heads, four-oldest, length-nand, page-of-nand}
 use Rattle.refinement.proofs.ClosePage.{few-buckets, page-after-close}
 use Rattle.refinement.proofs.PageFrom.{page-open, page-newest, page-elsewhere, heads-snoc}
@@ -125,6 +125,7 @@ module _ (h : History) (g : Good h) (some-lift : 0 < length (h .log .current)) w
     few = few-buckets ls (g .segment);
     heads-four = four-open;
     page-size = length-pageBuffer ls (g .segment .lifts);
+    bloom-size = length-bloomBuffer (codes ls);
   }
 
   abbrev closedNand : List ℕ

@@ -5,3 +5,4 @@ pub mod Slots
 pub mod ClosePage
 pub mod PageFrom
 pub mod Close
+pub mod InBounds

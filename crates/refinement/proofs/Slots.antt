@@ -1,7 +1,7 @@
 -- Serials less than S apart have different slots. Assumes nothing.
 use mathlib.Core.Path.{_≡_, sym, _∙_}
 use Prim.Native.Nat.{ℕ, suc, _+_, _-_, _*_, _/_, _%_, _≤_, _<_}
-use native.Mathlib.Nat.{div-add-mod', mul-le-mul-right}
+use native.Mathlib.Nat.{div-add-mod', mul-le-mul-right, mod-lt}
 use native.Mathlib.Decide.{decLt}
 use native.Mathlib.Omega.{arith}
 use Rattle.flash.specs.Chip.{slotOf}
@@ -25,3 +25,7 @@ same-rest s x y l h e = go (decLt (x / s) (y / s))
 pub slots-differ : (slots a b : ℕ) → 1 ≤ a → a < b → b < a + slots → slotOf a slots ≡ slotOf b slots → ⊥
 unfolding slotOf
 slots-differ slots a b p l h e = same-rest slots (a - 1) (b - 1) (omega arith) (omega arith) e
+
+pub slot-below : (slots n : ℕ) → 1 ≤ slots → slotOf n slots < slots
+unfolding slotOf
+slot-below slots n h = mod-lt (n - 1) h
