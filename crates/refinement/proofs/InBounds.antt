@@ -27,7 +27,7 @@ use Rattle.refinement.proofs.Close.{no-buckets}
 use Rattle.refinement.proofs.Good as G
 use Rattle.refinement.proofs.Good.{GoodLifts, Built, Times, Segments, Starts, Good}
 
-both : (a b : Bool) → a ≡ true → b ≡ true → (a && b) ≡ true
+pub both : (a b : Bool) → a ≡ true → b ≡ true → (a && b) ≡ true
 both true b p q = q
 both false b p q = p
 
@@ -35,7 +35,7 @@ and-right : (a b : Bool) → (a && b) ≡ true → b ≡ true
 and-right true b e = e
 and-right false b e = cc
 
-or-right : (a b : Bool) → b ≡ true → (a || b) ≡ true
+pub or-right : (a b : Bool) → b ≡ true → (a || b) ≡ true
 or-right true b e = refl
 or-right false b e = e
 
@@ -82,19 +82,19 @@ counts h g =
 -- ---- times
 
 -- next time after some lifts
-times-up : {n m : ℕ} {ls : List Lift} → Times n ls m → n ≤ m
+pub times-up : {n m : ℕ} {ls : List Lift} → Times n ls m → n ≤ m
 times-up G.none = le-refl _
 times-up (G.more h t) = omega (arith, times-up t)
 
-start-below : (ls : List Lift) {n m : ℕ} → Times n ls m → 0 < length ls → (n ≤ S.startTime ls) × (S.startTime ls < m)
+pub start-below : (ls : List Lift) {n m : ℕ} → Times n ls m → 0 < length ls → (n ≤ S.startTime ls) × (S.startTime ls < m)
 start-below [] t h = absurd (omega arith)
 start-below (l ∷ ls) (G.more k t) h = (k, omega (arith, times-up t))
 
-segments-up : {n m : ℕ} {closed : List (List Lift)} → Segments n closed m → n ≤ m
+pub segments-up : {n m : ℕ} {closed : List (List Lift)} → Segments n closed m → n ≤ m
 segments-up G.none = le-refl _
 segments-up (G.more t r) = omega (arith, times-up t, segments-up r)
 
-starts-up : {n m : ℕ} {ts : List ℕ} → Starts n ts m → n ≤ m
+pub starts-up : {n m : ℕ} {ts : List ℕ} → Starts n ts m → n ≤ m
 starts-up G.none = le-refl _
 starts-up (G.more a b r) = omega (arith, starts-up r)
 
@@ -154,12 +154,12 @@ either true a b p q = p
 either false a b p q = q
 
 -- the low and the high load are loads of the segment
-low-ok : (m : ℤ) (ls : List Lift) → loadOk m ≡ true → GoodLifts ls → loadOk (S.lowFrom m (S.loadsOf ls)) ≡ true
+pub low-ok : (m : ℤ) (ls : List Lift) → loadOk m ≡ true → GoodLifts ls → loadOk (S.lowFrom m (S.loadsOf ls)) ≡ true
 unfolding S.lowFrom
 low-ok m [] e g = e
 low-ok m (l ∷ ls) e g = low-ok (cond (ltZ (l .load) m) (l .load) m) ls (either (ltZ (l .load) m) (l .load) m (g .0 .load) e) (g .1)
 
-high-ok : (m : ℤ) (ls : List Lift) → loadOk m ≡ true → GoodLifts ls → loadOk (S.highFrom m (S.loadsOf ls)) ≡ true
+pub high-ok : (m : ℤ) (ls : List Lift) → loadOk m ≡ true → GoodLifts ls → loadOk (S.highFrom m (S.loadsOf ls)) ≡ true
 unfolding S.highFrom
 high-ok m [] e g = e
 high-ok m (l ∷ ls) e g = high-ok (cond (ltZ m (l .load)) (l .load) m) ls (either (ltZ m (l .load)) (l .load) m (g .0 .load) e) (g .1)
@@ -183,12 +183,12 @@ le-lt (negsuc a) (pos b) (negsuc c) p q = cc
 le-lt (negsuc a) (negsuc b) (pos c) p q = refl
 le-lt (negsuc a) (negsuc b) (negsuc c) p q = le-leb c a (omega (arith, leb-true b a p, ltb-true c b q))
 
-le-self : (a : ℤ) → leZ a a ≡ true
+pub le-self : (a : ℤ) → leZ a a ≡ true
 le-self (pos a) = le-leb a a (le-refl a)
 le-self (negsuc a) = le-leb a a (le-refl a)
 
 -- low is not above a number that is not below the first load, and high not below one that is not above it
-low-most : (m k : ℤ) (ls : List ℤ) → leZ m k ≡ true → leZ (S.lowFrom m ls) k ≡ true
+pub low-most : (m k : ℤ) (ls : List ℤ) → leZ m k ≡ true → leZ (S.lowFrom m ls) k ≡ true
 unfolding S.lowFrom
 low-most m k [] e = e
 low-most m k (l ∷ ls) e = low-most (cond (ltZ l m) l m) k ls (go (ltZ l m) refl)
@@ -197,7 +197,7 @@ low-most m k (l ∷ ls) e = low-most (cond (ltZ l m) l m) k ls (go (ltZ l m) ref
     go true f = lt-le l m k f e
     go false f = e
 
-high-least : (m k : ℤ) (ls : List ℤ) → leZ k m ≡ true → leZ k (S.highFrom m ls) ≡ true
+pub high-least : (m k : ℤ) (ls : List ℤ) → leZ k m ≡ true → leZ k (S.highFrom m ls) ≡ true
 unfolding S.highFrom
 high-least m k [] e = e
 high-least m k (l ∷ ls) e = high-least (cond (ltZ m l) l m) k ls (go (ltZ m l) refl)

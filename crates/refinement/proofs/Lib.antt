@@ -6,3 +6,4 @@ pub mod ClosePage
 pub mod PageFrom
 pub mod Close
 pub mod InBounds
+pub mod Retained
