@@ -7,3 +7,4 @@ pub mod PageFrom
 pub mod Close
 pub mod InBounds
 pub mod Retained
+pub mod Drop
