@@ -32,7 +32,7 @@ use Rattle.refinement.proofs.PageLengths.{length-area}
 use Rattle.refinement.proofs.Good.{GoodLifts, Built}
 use Rattle.refinement.proofs.Lengths.{length-records, length-codes, length-sections, wide-sections, good-loads}
 
-to-end : (r : List ℕ) (at : ℕ) → part r at (length (drop at r)) ≡ drop at r
+pub to-end : (r : List ℕ) (at : ℕ) → part r at (length (drop at r)) ≡ drop at r
 unfolding part
 to-end r at = take-length (drop at r)
 
@@ -46,7 +46,7 @@ lt-cases {P = P} a b f g h = go (decLt a b) (decLt b a)
     go (no p) (no q) = g (omega arith)
 
 -- a part that runs past the end of a list into the bytes behind it
-past-end : (r : List ℕ) (at n v m : ℕ) → at ≤ length r → length r ≤ at + n → at + n ≤ length r + m
+pub past-end : (r : List ℕ) (at n v m : ℕ) → at ≤ length r → length r ≤ at + n → at + n ≤ length r + m
     → part (r ++ repeated m v) at n ≡ drop at r ++ repeated (n - length (drop at r)) v
 past-end r at n v m a b c =
     let d = length-drop at r in

@@ -8,3 +8,4 @@ pub mod Close
 pub mod InBounds
 pub mod Retained
 pub mod Drop
+pub mod OneMore
