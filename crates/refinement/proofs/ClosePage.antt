@@ -37,7 +37,7 @@ unfolding part
 to-end r at = take-length (drop at r)
 
 -- below, at, above
-lt-cases : {P : Type 0} (a b : ℕ) → (a < b → P) → (a ≡ b → P) → (b < a → P) → P
+pub lt-cases : {P : Type 0} (a b : ℕ) → (a < b → P) → (a ≡ b → P) → (b < a → P) → P
 lt-cases {P = P} a b f g h = go (decLt a b) (decLt b a)
   where
     go : Dec (a < b) → Dec (b < a) → P

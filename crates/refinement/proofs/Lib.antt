@@ -9,3 +9,5 @@ pub mod InBounds
 pub mod Retained
 pub mod Drop
 pub mod OneMore
+pub mod PutState
+pub mod Put

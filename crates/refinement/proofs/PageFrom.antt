@@ -75,3 +75,19 @@ module _ (slots : ℕ) where
   unfolding headsFrom
   heads-snoc n [] ls heads = let e : n + 0 ≡ n = omega arith in rw e
   heads-snoc n (ms ∷ rest) ls heads = rw (ahead n ms rest) (heads-snoc (suc n) rest ls _)
+
+  -- the open segment's lifts are in the open serial's slot alone
+  pub page-current : (n : ℕ) (closed : List (List Lift)) (a b : List Lift) (heads : List Pointer) (s p : ℕ)
+      → (slotOf (n + length closed) slots ≡ s → openPage a p ≡ openPage b p)
+      → pageFrom slots n closed a heads s p ≡ pageFrom slots n closed b heads s p
+  unfolding pageFrom
+  page-current n [] a b heads s p f = go (eqb (slotOf n slots) s) refl
+    where
+      go : (t : Bool) → eqb (slotOf n slots) s ≡ t → cond t (openPage a p) erasedPage ≡ cond t (openPage b p) erasedPage
+      go true e =
+          let z : n + 0 ≡ n = omega arith in
+          f (ap (λ (m : ℕ). slotOf m slots) z ∙ eqb-true (slotOf n slots) s e)
+      go false e = refl
+  page-current n (ms ∷ rest) a b heads s p f =
+      ap (cond (eqb (slotOf n slots) s) (closedPage n ms heads p))
+      (page-current (suc n) rest a b _ s p (λ q. f (ap (λ (m : ℕ). slotOf m slots) (ahead n ms rest) ∙ q)))
