@@ -98,7 +98,7 @@ module _ (slots oldest : ℕ) (ms : List Lift) (rest : List (List Lift)) (curren
   abbrev h : History
   h = history slots oldest (ms ∷ rest) current next gone
 
-  good-drop-some : Good (dropHistory h)
+  pub good-drop-some : Good (dropHistory h)
   unfolding dropLog
   good-drop-some =
       let f = among [] ms rest (g .closed) in
@@ -174,7 +174,7 @@ module _ (slots oldest : ℕ) (ms : List Lift) (rest : List (List Lift)) (curren
       let r = retained-header h g (ms ∷ []) ns more' (ap (λ (c : List (List Lift)). ms ∷ c) e) (openSerial (h .log)) (omega (arith, ap length e)) in
       (ap (λ (x : Header). x .good) r, ap (λ (x : Header). x .start) r)
 
-  no-damage : dropDamage (image h) slots ≡ false
+  pub no-damage : dropDamage (image h) slots ≡ false
   unfolding image stateImage
   no-damage = go rest refl
     where

@@ -11,3 +11,5 @@ pub mod Drop
 pub mod OneMore
 pub mod PutState
 pub mod Put
+pub mod Entry
+pub mod Append
