@@ -13,3 +13,4 @@ pub mod PutState
 pub mod Put
 pub mod Entry
 pub mod Append
+pub mod Grounds
