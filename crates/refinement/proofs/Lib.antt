@@ -14,3 +14,5 @@ pub mod Put
 pub mod Entry
 pub mod Append
 pub mod Grounds
+pub mod Begun
+pub mod Steps
