@@ -226,7 +226,7 @@ pub home-bucket : (ls hs : List ℕ) (t : List Bucket) → Inv ls hs t → 0 < l
 home-bucket ls hs t v pos l lo hi =
     descend-ends t (v .good) l (length t) 0 (omega arith) pos start (omega (arith, v .low)) (omega (arith, v .high))
 
-no-loads : (ls hs : List ℕ) → Inv ls hs [] → (ls ≡ []) × (hs ≡ [])
+pub no-loads : (ls hs : List ℕ) → Inv ls hs [] → (ls ≡ []) × (hs ≡ [])
 no-loads [] [] v = (refl, refl)
 no-loads [] (h ∷ hs) v = absurd (v .housed)
 no-loads (l ∷ ls) [] v = absurd (v .housed)

@@ -13,3 +13,4 @@ pub mod Swept
 pub mod Planned
 pub mod Fields
 pub mod Written
+pub mod Inserted
