@@ -14,3 +14,4 @@ pub mod Planned
 pub mod Fields
 pub mod Written
 pub mod Inserted
+pub mod Looked
