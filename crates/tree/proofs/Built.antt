@@ -1,7 +1,7 @@
 -- The tree of any loads, load by load: it keeps the invariant, and grows by `insert`. Assumes nothing.
-use Prim.Native.Nat.{ℕ, zero, suc, _+_, _-_, _≤_, _<_}
+use Prim.Native.Nat.{ℕ, _+_, _-_, _≤_, _<_}
 use mathlib.Core.Path.{_≡_, refl, sym, _∙_, ap, subst}
-use mathlib.Core.Bool.{Bool, true, false, cond}
+use mathlib.Core.Bool.{Bool, true, false}
 use mathlib.Core.Option.{Option, none, some}
 use mathlib.Core.List.{List, [], _∷_, _++_, append-nil, append-assoc}
 use native.Mathlib.Omega.{arith}
@@ -9,17 +9,16 @@ use lib.Dec.{ltb}
 use lib.ListN.{length, drop, length-append, length-drop}
 use lib.Seq.{drop-append-le, drop-drop}
 use borrow.Author.Tests.{ltb-false}
-use Rattle.split.specs.Split.{midpoint}
 use Rattle.tree.specs.Rules.{Entry, Bucket, Kids, whole, split, at, descend, allocate, put, lastLoads, insert, insertMore}
-use Rattle.tree.specs.Rules.{treeOf, needsBucket36, Loads}
-use Rattle.tree.proofs.Held.{Housed, Both, Inv}
+use Rattle.tree.specs.Rules.{treeOf, needsBucket36, bucketsOf, root, Loads}
+use Rattle.tree.proofs.Held.{Good, Housed, Both, Inv}
 use Rattle.tree.proofs.Descent.{if, none-some}
 use Rattle.tree.proofs.Insert.{insert-inv, empty-inv}
 
 -- ---- the invariant
 
-more-inv : (more ls hs : List ℕ) (t : List Bucket) → Inv ls hs t → Loads more → (t′ : List Bucket) → insertMore ls t more ≡ some t′
-    → (hs′ : List ℕ) × Inv (ls ++ more) hs′ t′
+more-inv : (more ls hs : List ℕ) (t : List Bucket) → Inv ls hs t → Loads more
+    → (t′ : List Bucket) → insertMore ls t more ≡ some t′ → (hs′ : List ℕ) × Inv (ls ++ more) hs′ t′
 unfolding insertMore
 more-inv [] ls hs t v ok t′ e =
     let e′ : t ≡ t′ = cc in
@@ -41,6 +40,14 @@ more-inv (l ∷ more) ls hs t v ok t′ e = go (insert ls t l) refl e (more-inv 
 pub built-inv : (ls : List ℕ) → Loads ls → (t : List Bucket) → treeOf ls ≡ some t → (hs : List ℕ) × Inv ls hs t
 unfolding treeOf
 built-inv ls ok t e = more-inv ls [] [] [] empty-inv ok t e
+
+-- every bucket: its range, its mid, its children's numbers and ranges, at most 13 entries
+pub built-good : (ls : List ℕ) → Loads ls → (t : List Bucket) → treeOf ls ≡ some t → (i : ℕ) → Good t i (at t i)
+built-good ls ok t e i = built-inv ls ok t e .1 .good i
+
+pub buckets-of : (ls : List ℕ) (t : List Bucket) → treeOf ls ≡ some t → bucketsOf ls ≡ t
+unfolding bucketsOf
+buckets-of ls t e = ap (λ (o : Option (List Bucket)). elim o [ none ↦ [] | some u ↦ u ]) e
 
 -- ---- one load more
 
@@ -137,6 +144,10 @@ module _ (ls : List ℕ) (l : ℕ) (t : List Bucket) (e : treeOf ls ≡ some t) 
 pub tree-of-none : treeOf [] ≡ some []
 unfolding treeOf insertMore
 tree-of-none = refl
+
+pub tree-of-one : (l : ℕ) → treeOf (l ∷ []) ≡ some (root (record { load = l; position = 0 } ∷ []) ∷ [])
+unfolding treeOf insertMore insert
+tree-of-one l = refl
 
 pub first-fits : (l : ℕ) → needsBucket36 [] l ≡ false
 unfolding needsBucket36 treeOf insertMore insert

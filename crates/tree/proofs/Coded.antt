@@ -1,24 +1,24 @@
--- One bucket in bytes: what is written is read back. Every field stands at a fixed offset, so its bytes are found by computation;
--- only the entries take the law of places. Assumes nothing.
-use Prim.Native.Nat.{ℕ, zero, suc, _+_, _*_, _^_, _≤_, _<_}
+-- One bucket in bytes: what is written is read back. Every field stands at a fixed offset, so its bytes are found by
+-- computation; only the entries take the law of places. Assumes nothing.
+use Prim.Native.Nat.{ℕ, zero, suc, _+_, _*_, _≤_, _<_}
 use mathlib.Core.Path.{_≡_, refl, sym, ap, ap₂, _∙_}
-use mathlib.Core.Bool.{Bool, true, false, cond}
+use mathlib.Core.Bool.{cond}
 use mathlib.Core.Option.{Option, none, some}
-use mathlib.Core.List.{List, [], _∷_, _++_}
+use mathlib.Core.List.{List, _++_}
 use native.Mathlib.Omega.{arith}
 use lib.Dec.{ltb, eqb}
 use lib.ListN.{length, getD, drop, length-append, drop-of-length-le}
 use lib.Seq.{drop-cons}
-use borrow.Author.Tests.{ltb-true, ltb-false, eq-eqb, ne-eqb}
+use borrow.Author.Tests.{ltb-true, ltb-false, ne-eqb}
 use Rattle.codec.specs.Area.{part, repeated}
 use Rattle.codec.specs.Number.{le, bytes, numberAt}
 use Rattle.codec.proofs.Areas.{part-part, part-append-right}
-use Rattle.codec.proofs.Numbers.{le-bytes}
+use Rattle.codec.proofs.Numbers.{le-bytes, bytes-below}
 use Rattle.tree.specs.Rules.{Entry, Bucket, Kids, whole, split}
 use Rattle.tree.specs.Bytes.{places, entryBytes, noMid, midNumber, childNumber, leftNumber, rightNumber, bucketBytes}
 use Rattle.tree.specs.Reading.{entryIn, entriesFrom, Node, nodeIn, childAt, kidsOf}
 use Rattle.tree.proofs.Descent.{if}
-use Rattle.tree.proofs.Places.{length-places, place-used, place-free}
+use Rattle.tree.proofs.Places.{Bytes, bytes-append, bytes-repeated, bytes-places, length-places, place-used, place-free}
 
 pub length-entry : (e : Entry) → length (entryBytes e) ≡ 8
 unfolding entryBytes bytes repeated
@@ -27,7 +27,9 @@ length-entry e = refl
 -- the 24 bytes before the entries
 abbrev pub headBytes : Bucket → List ℕ
 headBytes b =
-    bytes 4 (b .x) ++ bytes 4 (b .y) ++ bytes 4 (midNumber (b .kids)) ++ bytes 1 (leftNumber (b .kids)) ++ bytes 1 (rightNumber (b .kids))
+    bytes 4 (b .x) ++ bytes 4 (b .y) ++ bytes 4 (midNumber (b .kids))
+    ++ bytes 1 (leftNumber (b .kids))
+    ++ bytes 1 (rightNumber (b .kids))
     ++ repeated 10 255
 
 pub length-head : (b : Bucket) → length (headBytes b) ≡ 24
@@ -39,6 +41,35 @@ unfolding bucketBytes
 length-bucket b =
     length-append (headBytes b) (places 8 entryBytes 13 (b .entries))
     ∙ rw (length-head b, length-places 8 entryBytes length-entry 13 (b .entries))
+
+-- a number after bytes
+bytes-number : (p : List ℕ) (n v : ℕ) → Bytes p → Bytes (p ++ bytes n v)
+bytes-number p n v f = bytes-append p (bytes n v) f (bytes-below n v)
+
+bytes-entry : (e : Entry) → Bytes (entryBytes e)
+unfolding entryBytes
+bytes-entry e =
+    bytes-append (bytes 4 (e .load) ++ bytes 2 (e .position)) (repeated 2 255)
+    (bytes-number (bytes 4 (e .load)) 2 (e .position) (bytes-below 4 (e .load)))
+    (bytes-repeated 2 255 (omega arith))
+
+bytes-head : (b : Bucket) → Bytes (headBytes b)
+bytes-head b =
+    let p₁ : List ℕ = bytes 4 (b .x) ++ bytes 4 (b .y) in
+    let p₂ : List ℕ = p₁ ++ bytes 4 (midNumber (b .kids)) in
+    let p₃ : List ℕ = p₂ ++ bytes 1 (leftNumber (b .kids)) in
+    let p₄ : List ℕ = p₃ ++ bytes 1 (rightNumber (b .kids)) in
+    bytes-append p₄ (repeated 10 255)
+    (bytes-number p₃ 1 (rightNumber (b .kids))
+    (bytes-number p₂ 1 (leftNumber (b .kids))
+    (bytes-number p₁ 4 (midNumber (b .kids)) (bytes-number (bytes 4 (b .x)) 4 (b .y) (bytes-below 4 (b .x))))))
+    (bytes-repeated 10 255 (omega arith))
+
+pub bytes-bucket : (b : Bucket) → Bytes (bucketBytes b)
+unfolding bucketBytes
+bytes-bucket b =
+    bytes-append (headBytes b) (places 8 entryBytes 13 (b .entries)) (bytes-head b)
+    (bytes-places 8 entryBytes bytes-entry 13 (b .entries))
 
 -- ---- numbers that fit their bytes
 

@@ -1,5 +1,5 @@
--- A descent ends where the load has no child to go to, in a bucket whose range holds the load; a tree that has grown keeps its ways.
--- Assumes nothing.
+-- A descent ends where the load has no child to go to, in a bucket whose range holds the load; a tree that has grown keeps
+-- its ways. Assumes nothing.
 use Prim.Native.Nat.{ℕ, zero, suc, _+_, _≤_, _<_}
 use mathlib.Core.Path.{_≡_, refl, _∙_, subst}
 use mathlib.Core.Bool.{Bool, true, false}
@@ -11,7 +11,7 @@ use lib.ListN.{length, set, length-append, length-set, List·getD-append, List·
 use lib.Seq.{getD-set-same, getD-set-other, getD-append-seam, lt-length-set}
 use borrow.Author.Tests.{ltb-true, ltb-false, leb-true, leb-false}
 use Rattle.tree.specs.Rules.{Bucket, Kids, whole, split, root, at, next, descend}
-use Rattle.tree.proofs.Held.{Way, start, down, IsChild, Child, Halves, Parts, Good}
+use Rattle.tree.proofs.Held.{Way, start, down, Child, Parts, Good}
 
 -- two ways for a test
 pub if : {P : Type 0} (b : Bool) → (b ≡ true → P) → (b ≡ false → P) → P

@@ -1,10 +1,11 @@
--- The writes of an insertion within one bucket: a mid, a child number, a range, an entry. Each stands at a fixed offset, so the bytes
--- after it are found by computation; an entry takes the law of places. What was there before is 255. Assumes nothing.
-use Prim.Native.Nat.{ℕ, zero, suc, _+_, _*_, _/_, _%_, _^_, _≤_, _<_}
-use mathlib.Core.Path.{_≡_, refl, sym, ap, ap₂, _∙_}
+-- The writes of an insertion within one bucket: a mid, a child number, a range, an entry. Each stands at a fixed offset, so
+-- the bytes after it are found by computation; an entry takes the law of places. What was there before is 255. Assumes
+-- nothing.
+use Prim.Native.Nat.{ℕ, zero, suc, _+_, _*_, _/_, _%_, _^_, _<_}
+use mathlib.Core.Path.{_≡_, refl, sym, ap, _∙_}
 use mathlib.Core.Bool.{Bool, true, false, cond}
 use mathlib.Core.Option.{Option, none, some}
-use mathlib.Core.List.{List, [], _∷_, _++_}
+use mathlib.Core.List.{List, [], _++_}
 use native.Mathlib.Nat.{pow-suc, suc-add, zero-add, mul-comm, mul-assoc}
 use native.Mathlib.Omega.{arith}
 use lib.ListN.{length}
@@ -35,7 +36,7 @@ bytes-join (suc m) n x y h =
 pub pair-bytes : (n x y : ℕ) → x < 4294967296 → bytes (4 + n) (pair x y) ≡ bytes 4 x ++ bytes n y
 pair-bytes n x y h = bytes-join 4 n x y h
 
-abbrev bucket : ℕ → ℕ → Kids → List Entry → Bucket
+abbrev pub bucket : ℕ → ℕ → Kids → List Entry → Bucket
 bucket x y k es = record { x = x; y = y; kids = k; entries = es }
 
 -- a mid is written into an unsplit bucket
@@ -62,13 +63,15 @@ unfolding splice bucketBytes bytes repeated places
 range-written x y h = ap (λ (r : List ℕ). splice (repeated 128 255) 0 r) (pair-bytes 4 x y h)
 
 -- an entry, in a place that is 255
-entry-written : (l p : ℕ) → l < 4294967296 → splice (repeated 8 255) 0 (bytes 6 (pair l p)) ≡ entryBytes (record { load = l; position = p })
+entry-written : (l p : ℕ) → l < 4294967296
+    → splice (repeated 8 255) 0 (bytes 6 (pair l p)) ≡ entryBytes (record { load = l; position = p })
 unfolding splice entryBytes bytes repeated
 entry-written l p h = ap (λ (r : List ℕ). splice (repeated 8 255) 0 r) (pair-bytes 2 l p h)
 
 -- one entry more, in a bucket that is not full
 pub added-written : (b : Bucket) (l p : ℕ) → l < 4294967296 → length (b .entries) < 13
-    → splice (bucketBytes b) (24 + 8 * length (b .entries)) (bytes 6 (pair l p)) ≡ bucketBytes (added b (record { load = l; position = p }))
+    → splice (bucketBytes b) (24 + 8 * length (b .entries)) (bytes 6 (pair l p))
+    ≡ bucketBytes (added b (record { load = l; position = p }))
 unfolding bucketBytes
 added-written b l p h k =
     let g = length-head b in
@@ -78,8 +81,8 @@ added-written b l p h k =
     (bytes 6 (pair l p)) (omega arith)
     ∙ ap (λ (s : List ℕ). headBytes b ++ s)
     (ap (λ (j : ℕ). splice (places 8 entryBytes 13 (b .entries)) j (bytes 6 (pair l p))) (sym z)
-    ∙ write-new 8 entryBytes length-entry 0 (bytes 6 (pair l p)) (record { load = l; position = p }) (omega arith) 13 (b .entries) k
-    (entry-written l p h))
+    ∙ write-new 8 entryBytes length-entry 0 (bytes 6 (pair l p)) (record { load = l; position = p }) (omega arith) 13 (b .entries)
+    k (entry-written l p h))
 
 -- ---- what was there
 
@@ -87,16 +90,19 @@ pub mid-clear : (x y : ℕ) (es : List Entry) → allOnes (part (bucketBytes (bu
 unfolding part bucketBytes bytes repeated allOnes
 mid-clear x y es = refl
 
-pub whole-clear : (x y : ℕ) (q : Bool) (es : List Entry) → allOnes (part (bucketBytes (bucket x y whole es)) (cond q 12 13) 1) ≡ true
+pub whole-clear : (x y : ℕ) (q : Bool) (es : List Entry)
+    → allOnes (part (bucketBytes (bucket x y whole es)) (cond q 12 13) 1) ≡ true
 unfolding part bucketBytes bytes repeated allOnes
 whole-clear x y true es = refl
 whole-clear x y false es = refl
 
-pub left-clear : (x y m : ℕ) (c : Option ℕ) (es : List Entry) → allOnes (part (bucketBytes (bucket x y (split m none c) es)) 12 1) ≡ true
+pub left-clear : (x y m : ℕ) (c : Option ℕ) (es : List Entry)
+    → allOnes (part (bucketBytes (bucket x y (split m none c) es)) 12 1) ≡ true
 unfolding part bucketBytes bytes repeated allOnes
 left-clear x y m c es = refl
 
-pub right-clear : (x y m : ℕ) (a : Option ℕ) (es : List Entry) → allOnes (part (bucketBytes (bucket x y (split m a none) es)) 13 1) ≡ true
+pub right-clear : (x y m : ℕ) (a : Option ℕ) (es : List Entry)
+    → allOnes (part (bucketBytes (bucket x y (split m a none) es)) 13 1) ≡ true
 unfolding part bucketBytes bytes repeated allOnes
 right-clear x y m a es = refl
 

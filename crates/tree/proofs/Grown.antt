@@ -1,6 +1,6 @@
--- Laws of growing lists, from which an insert keeps the invariant: what holds of every bucket after a store and after a new bucket,
--- the homes with one load more, and a split bucket with one child more. Assumes nothing.
-use Prim.Native.Nat.{ℕ, zero, suc, _+_, _≤_, _<_}
+-- Laws of growing lists, from which an insert keeps the invariant: what holds of every bucket after a store and after a new
+-- bucket, the homes with one load more, and a split bucket with one child more. Assumes nothing.
+use Prim.Native.Nat.{ℕ, suc, _+_, _≤_, _<_}
 use mathlib.Core.Path.{_≡_, refl, sym, _∙_, ap}
 use mathlib.Core.Bool.{Bool, true, false, cond}
 use mathlib.Core.Option.{Option, none, some}
@@ -10,8 +10,8 @@ use lib.Dec.{leb, eqb}
 use lib.ListN.{length, set, List·getD-eq-default}
 use lib.Seq.{getD-set-same, getD-set-other}
 use borrow.Author.Tests.{leb-false, eqb-true, eqb-false}
-use Rattle.tree.specs.Rules.{Entry, Bucket, Kids, whole, split, root, at, next}
-use Rattle.tree.proofs.Held.{IsChild, Child, Halves, Parts, Both, home}
+use Rattle.tree.specs.Rules.{Entry, Bucket, Kids, split, root, at, next}
+use Rattle.tree.proofs.Held.{IsChild, Halves, Parts, Both, home}
 use Rattle.tree.proofs.Descent.{if, none-some, at-same, at-new, at-else}
 
 module _ (P : ℕ → Bucket → Type 0) (t : List Bucket) (i : ℕ) (b : Bucket) (h : i < length t) where

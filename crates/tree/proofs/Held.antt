@@ -1,6 +1,6 @@
--- What holds of a tree that is built by inserts. The idea: a list of homes, one for each load, says in which bucket its entry stands,
--- and a bucket's entries are computed from the loads and their homes. Assumes nothing.
-use Prim.Native.Nat.{ℕ, zero, suc, _≤_, _<_}
+-- What holds of a tree that is built by inserts. The idea: a list of homes, one for each load, says in which bucket its
+-- entry stands, and a bucket's entries are computed from the loads and their homes. Assumes nothing.
+use Prim.Native.Nat.{ℕ, suc, _≤_, _<_}
 use mathlib.Core.Path.{_≡_}
 use mathlib.Core.Bool.{cond}
 use mathlib.Core.Option.{Option, none, some}

@@ -1,17 +1,19 @@
 -- Each position stands once in the bucket that is its home, with its load, and in no other bucket. Assumes nothing.
 use Prim.Native.Nat.{ℕ, zero, suc, _+_, _≤_, _<_}
-use mathlib.Core.Path.{_≡_, refl, sym, _∙_, ap}
+use mathlib.Core.Path.{_≡_, refl, _∙_, ap}
 use mathlib.Core.Bool.{Bool, true, false, cond}
 use mathlib.Core.Logic.{_⊎_, inl, inr}
-use mathlib.Core.List.{List, [], _∷_, _++_, List·Memᴰ, List·Memᴰ·head, List·Memᴰ·tail, List·Memᴰ·not-nil, List·Memᴰ·cases-cons}
+use mathlib.Core.Option.{some}
+use mathlib.Core.List.{List, [], _∷_, List·Memᴰ, List·Memᴰ·not-nil, List·Memᴰ·cases-cons}
 use native.Mathlib.Omega.{arith}
 use lib.Dec.{eqb}
 use lib.ListN.{length, getD}
 use borrow.Author.Tests.{eqb-true, eq-eqb, ne-eqb}
-use Rattle.tree.specs.Rules.{Entry, Bucket, at}
+use Rattle.tree.specs.Rules.{Entry, Bucket, at, treeOf, Loads}
 use Rattle.tree.specs.Search.{within, hits, times}
 use Rattle.tree.proofs.Held.{Way, start, down, Housed, Both, home, Inv}
 use Rattle.tree.proofs.Descent.{step}
+use Rattle.tree.proofs.Built.{built-inv}
 
 pub both-at : (P : ℕ → ℕ → Type 0) (hs ls : List ℕ) → Both P hs ls → (k : ℕ) → k < length ls → P (getD hs k 0) (getD ls k 0)
 both-at P [] [] b k h = absurd (omega arith)
@@ -90,6 +92,10 @@ module _ (ls hs : List ℕ) (t : List Bucket) (v : Inv ls hs t) where
       let w : In (at t i) (e .load) = rw (g .load) (way-in (getD ls (g .k) 0) (u .low) (u .high) (rw (g .house) at (u .way))) in
       record { below = omega (arith, g .below); load = rw k at (g .load); low = w .low; high = w .high }
 
+pub built-placed : (ls : List ℕ) → Loads ls → (t : List Bucket) → treeOf ls ≡ some t → (i : ℕ) (e : Entry)
+    → List·Memᴰ e (at t i .entries) → Placed ls (at t i) e
+built-placed ls ok t e = let v = built-inv ls ok t e in placed ls (v .0) t (v .1)
+
 -- ---- how often a position is hit
 
 module _ (k1 k2 p : ℕ) where
@@ -110,7 +116,8 @@ module _ (k1 k2 p : ℕ) where
   cond-zero false n e = refl
 
   -- a position that none of the loads has
-  times-absent : (i q : ℕ) (hs ls : List ℕ) → ((k : ℕ) → k < length ls → q + k ≡ p → ⊥) → times p (hits k1 k2 (home i q hs ls)) ≡ 0
+  times-absent : (i q : ℕ) (hs ls : List ℕ) → ((k : ℕ) → k < length ls → q + k ≡ p → ⊥)
+      → times p (hits k1 k2 (home i q hs ls)) ≡ 0
   unfolding times hits
   times-absent i q [] ls f = refl
   times-absent i q (h ∷ hs) [] f = refl

@@ -1,7 +1,8 @@
--- An insert keeps the invariant: the new load's home is the bucket where its descent ends, or a new child of it. Assumes nothing.
-use Prim.Native.Nat.{ℕ, zero, suc, _+_, _≤_, _<_}
+-- An insert keeps the invariant: the new load's home is the bucket where its descent ends, or a new child of it. Assumes
+-- nothing.
+use Prim.Native.Nat.{ℕ, zero, suc, _≤_, _<_}
 use mathlib.Core.Path.{_≡_, refl, sym, _∙_, subst}
-use mathlib.Core.Bool.{Bool, true, false, cond}
+use mathlib.Core.Bool.{Bool, cond}
 use mathlib.Core.Option.{Option, none, some}
 use mathlib.Core.List.{List, [], _∷_, _++_, append-nil}
 use native.Mathlib.Omega.{arith}
@@ -12,7 +13,7 @@ use Rattle.split.specs.Split.{midpoint}
 use Rattle.split.proofs.Midpoint.{midpoint-within}
 use Rattle.tree.specs.Rules.{Entry, Bucket, Kids, whole, split, root, at, next, descend, added, linked, childOf, withChild}
 use Rattle.tree.specs.Rules.{allocate, put, lastLoads, insert}
-use Rattle.tree.proofs.Held.{Way, start, down, IsChild, Halves, Parts, Good, Housed, Both, home, Inv}
+use Rattle.tree.proofs.Held.{Way, start, down, IsChild, Halves, Good, Housed, home, Inv}
 use Rattle.tree.proofs.Descent.{if, none-some, at-same, at-new, Ext, way-ext, parts-ext, End, descend-ends}
 use Rattle.tree.proofs.Grown.{set-cases, grow-cases, both-map, both-snoc, home-snoc, link-grow, link-next, link-parts}
 use Rattle.tree.proofs.Grown.{child-wide, child-top, cond-none, past-end}
@@ -38,7 +39,12 @@ module _ (ls hs : List ℕ) (t : List Bucket) (v : Inv ls hs t) (l : ℕ) (lo : 
         good = good;
         housed = both-snoc (Housed t′) h l hs ls
             (both-map
-            (λ h l u. record { there = omega (arith, x .longer, u .there); way = way-ext x (u .way); low = u .low; high = u .high })
+            (λ h l u. record {
+              there = omega (arith, x .longer, u .there);
+              way = way-ext x (u .way);
+              low = u .low;
+              high = u .high;
+            })
             hs ls (v .housed))
             (record { there = there; way = way; low = lo; high = hi });
         held = λ j. es j ∙ rw (v .held j) (sym (home-snoc (Housed t) j 0 (length ls) h l hs ls (v .housed) (omega arith)));
@@ -108,7 +114,8 @@ module _ (ls hs : List ℕ) (t : List Bucket) (v : Inv ls hs t) (l : ℕ) (lo : 
                 (λ _. refl) (λ r. absurd (omega arith)) (λ j _ _ _. refl);
             ys = grow-cases (λ j b. j < length t → b .y ≡ at t j .y) t i b′ (z .there) n′
                 (λ _. refl) (λ r. absurd (omega arith)) (λ j _ _ _. refl);
-            grows = grow-cases (λ j b. (l c : ℕ) → next (at t j .kids) l ≡ some c → next (b .kids) l ≡ some c) t i b′ (z .there) n′
+            grows = grow-cases (λ j b. (l c : ℕ) → next (at t j .kids) l ≡ some c → next (b .kids) l ≡ some c) t i b′
+                (z .there) n′
                 (λ l d e. link-grow m a c (length t) q l d stop (grows l d e)) (λ l d e. past-end t l d e) (λ j _ _ l c e. e);
           }
 
@@ -148,7 +155,8 @@ module _ (ls hs : List ℕ) (t : List Bucket) (v : Inv ls hs t) (l : ℕ) (lo : 
 
       split-way : Way t′ l (length t)
       split-way =
-          down {c = length t} (way-ext split-ext (z .way)) (rw (at-same t i b′ n′ (z .there)) (link-next m a c (length t) q l side))
+          down {c = length t} (way-ext split-ext (z .way))
+          (rw (at-same t i b′ n′ (z .there)) (link-next m a c (length t) q l side))
 
       split-inv : Inv (ls ++ (l ∷ [])) (hs ++ (length t ∷ [])) t′
       split-inv =

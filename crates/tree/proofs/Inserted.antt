@@ -1,8 +1,8 @@
--- An insertion into the bytes of a built tree: no damage, no room exactly where the rules need bucket 36, and else writes over bytes
--- that are 255, which give the bytes of the tree with the load. Assumes nothing.
-use Prim.Native.Nat.{ℕ, zero, suc, _+_, _*_, _≤_, _<_}
+-- An insertion into the bytes of a built tree: no damage, no room exactly where the rules need bucket 36, and else writes
+-- over bytes that are 255, which give the bytes of the tree with the load. Assumes nothing.
+use Prim.Native.Nat.{ℕ, suc, _+_, _≤_, _<_}
 use mathlib.Core.Path.{_≡_, refl, sym, ap, subst, _∙_}
-use mathlib.Core.Bool.{Bool, true, false, cond, _&&_}
+use mathlib.Core.Bool.{Bool, true, false, cond}
 use mathlib.Core.Option.{Option, none, some}
 use mathlib.Core.List.{List, [], _∷_, _++_}
 use native.Mathlib.Omega.{arith}
@@ -14,21 +14,21 @@ use Rattle.codec.specs.Area.{part, splice, allOnes}
 use Rattle.codec.specs.Number.{bytes}
 use Rattle.split.specs.Split.{midpoint}
 use Rattle.split.proofs.Midpoint.{midpoint-within}
-use Rattle.tree.specs.Rules.{Entry, Bucket, Kids, whole, split, root, at, next, descend, added, linked, childOf, withChild}
+use Rattle.tree.specs.Rules.{Entry, Bucket, Kids, whole, split, root, at, descend, added, linked, withChild}
 use Rattle.tree.specs.Rules.{allocate, put, lastLoads, insert, treeOf, needsBucket36, Loads}
 use Rattle.tree.specs.Bytes.{treeBytes}
-use Rattle.tree.specs.Plan.{Plan, damaged, noRoom, newRoot, intoBucket, newChild, splitBucket, sideByte, lowEnd, highEnd}
+use Rattle.tree.specs.Plan.{Plan, noRoom, newRoot, intoBucket, newChild, splitBucket}
 use Rattle.tree.specs.Plan.{planHere, fitted, planOn, isDamaged, isNoRoom}
-use Rattle.tree.specs.Writes.{Write, Writes, nothing, midWrite, childWrite, rangeWrite, entryWrite, writesOf, bucketsAfter}
-use Rattle.tree.specs.Writes.{isClear, allClear, written, allWritten}
+use Rattle.tree.specs.Writes.{midWrite, childWrite, rangeWrite, entryWrite, writesOf, bucketsAfter}
+use Rattle.tree.specs.Writes.{allClear, written, allWritten}
 use Rattle.tree.proofs.Held.{Halves, Both, home, Housed, Inv}
 use Rattle.tree.proofs.Descent.{if, End}
 use Rattle.tree.proofs.Insert.{home-bucket, no-loads}
 use Rattle.tree.proofs.Grown.{cond-none}
-use Rattle.tree.proofs.Built.{built-inv, tree-snoc, needs-none, counted-inv}
+use Rattle.tree.proofs.Built.{built-inv, tree-snoc, needs-none, needs-not, counted-inv}
 use Rattle.tree.proofs.Coded.{nodeOf}
-use Rattle.tree.proofs.Planned.{choice, plan-inv}
-use Rattle.tree.proofs.Written.{halved, empty, clear-range, clear-first, clear-entry, clear-mid, clear-whole, clear-missing}
+use Rattle.tree.proofs.Planned.{plan-inv}
+use Rattle.tree.proofs.Written.{halved, clear-range, clear-first, clear-entry, clear-mid, clear-whole, clear-missing}
 use Rattle.tree.proofs.Written.{written-entry, written-mid, written-child, written-bucket}
 
 -- what the plan does to NOR, whose first bytes are the tree t: it gives the tree u
@@ -91,17 +91,20 @@ module _ (t : List Bucket) (few : length t ≤ 36) (rest : List ℕ) (l p : ℕ)
     abbrev above : ℕ
     above = cond q m (at t i .y)
 
+    abbrev parent : Bucket
+    parent = linked (at t i) q m a c (length t)
+
     long : length t + 1 ≡ length grown
     long = simp (length-append, length-set) (omega arith)
 
     -- the last two writes, into the tree whose bucket i is linked
-    bucket-done : written (written (treeBytes (set t i (linked (at t i) q m a c (length t))) ++ rest) (rangeWrite (length t) below above))
-        (entryWrite (length t) 0 l p)
+    bucket-done :
+        written (written (treeBytes (set t i parent) ++ rest) (rangeWrite (length t) below above)) (entryWrite (length t) 0 l p)
         ≡ treeBytes grown ++ rest
     bucket-done =
-        let e : length (set t i (linked (at t i) q m a c (length t))) ≡ length t = length-set t i (linked (at t i) q m a c (length t)) in
+        let e : length (set t i parent) ≡ length t = length-set t i parent in
         rw e at
-        (written-bucket (set t i (linked (at t i) q m a c (length t))) rest below above l p (omega arith) (cond-below q (at t i .x) m bx bm) small)
+        (written-bucket (set t i parent) rest below above l p (omega arith) (cond-below q (at t i .x) m bx bm) small)
 
     child-done : at t i .kids ≡ split m a c → Done t grown rest l p (newChild i (cond q 12 13) below above)
     unfolding writesOf bucketsAfter allClear allWritten splice part bytes allOnes
@@ -136,9 +139,16 @@ module _ (t : List Bucket) (few : length t ≤ 36) (rest : List ℕ) (l p : ℕ)
         ap (λ (s : List ℕ). written s (childWrite i (cond q 12 13) (length t))) (written-mid t few rest i m h e)
         ∙ written-child cut (omega arith) rest i m none none q (length t) (omega arith) (ap (λ (b : Bucket). b .kids) g)
         ∙ ap (λ (b : Bucket). treeBytes (set cut i (linked b q m none none (length t))) ++ rest) g
-        ∙ ap (λ (u : List Bucket). treeBytes u ++ rest) (set-set t i (halved (at t i) m) (linked (at t i) q m none none (length t)))
+        ∙ ap (λ (u : List Bucket). treeBytes u ++ rest)
+        (set-set t i (halved (at t i) m) (linked (at t i) q m none none (length t)))
 
-    split-done : Done t (withChild t i q m none none new) rest l p (splitBucket i m (cond q 12 13) (cond q (at t i .x) m) (cond q m (at t i .y)))
+    abbrev from : ℕ
+    from = cond q (at t i .x) m
+
+    abbrev upto : ℕ
+    upto = cond q m (at t i .y)
+
+    split-done : Done t (withChild t i q m none none new) rest l p (splitBucket i m (cond q 12 13) from upto)
     unfolding writesOf bucketsAfter allClear allWritten
     split-done =
         record {
@@ -148,18 +158,19 @@ module _ (t : List Bucket) (few : length t ≤ 36) (rest : List ℕ) (l p : ℕ)
               rw (
                 clear-mid t few rest i m h e,
                 clear-whole t few rest i q (length t) h e,
-                clear-range t few rest (length t) (cond q (at t i .x) m) (cond q m (at t i .y)) (omega arith) room,
+                clear-range t few rest (length t) from upto (omega arith) room,
                 clear-first t few rest (length t) l p (omega arith) room,
               );
           written = ap
-              (λ (s : List ℕ). written (written s (rangeWrite (length t) (cond q (at t i .x) m) (cond q m (at t i .y)))) (entryWrite (length t) 0 l p))
+              (λ (s : List ℕ). written (written s (rangeWrite (length t) from upto)) (entryWrite (length t) 0 l p))
               linked-done
               ∙ bucket-done i m none none q h room (cond-none q) bx bm;
           buckets = long i m none none q h room (cond-none q) bx bm;
         }
 
 -- the first entry, in a new root
-pub root-done : (rest : List ℕ) (l p : ℕ) → l < 4294967296 → Done [] (root (record { load = l; position = p } ∷ []) ∷ []) rest l p newRoot
+pub root-done : (rest : List ℕ) (l p : ℕ) → l < 4294967296
+    → Done [] (root (record { load = l; position = p } ∷ []) ∷ []) rest l p newRoot
 unfolding writesOf bucketsAfter allClear allWritten splice part bytes allOnes
 root-done rest l p small =
     record {
@@ -173,6 +184,17 @@ root-done rest l p small =
       written = written-bucket [] rest 0 150001 l p (omega arith) (omega arith) small;
       buckets = refl;
     }
+
+-- after a close the load begins a new tree, in erased bytes, as its first load does
+pub fresh-clear : (rest : List ℕ) (n l p : ℕ) → l < 4294967296 → allClear (treeBytes [] ++ rest) (writesOf noRoom n l p) ≡ true
+unfolding writesOf
+fresh-clear rest n l p small = root-done rest l p small .clear
+
+pub fresh-written : (rest : List ℕ) (n l p : ℕ) → l < 4294967296
+    → allWritten (treeBytes [] ++ rest) (writesOf noRoom n l p)
+    ≡ treeBytes (root (record { load = l; position = p } ∷ []) ∷ []) ++ rest
+unfolding writesOf
+fresh-written rest n l p small = root-done rest l p small .written
 
 -- ---- the plan against the insert
 
@@ -204,8 +226,8 @@ module _ (ls hs : List ℕ) (t : List Bucket) (v : Inv ls hs t) (open-end : leng
   put-outcome i z (split m a c) e =
       let g : Halves t i (at t i .x) (at t i .y) m a c = rw e at (v .good i .parts) in
       outcome-if t (withChild t i (leb l m) m a c entry) rest l (length ls) _ (ltb (length t) 36)
-      (λ f. child-done t (v .few) rest l (length ls) (omega arith) i m a c (leb l m) (z .there) (ltb-true (length t) 36 f) (rw e at (z .stop))
-      (omega (arith, v .good i .wide, v .good i .top)) (omega (arith, g .under, v .good i .top)) e)
+      (λ f. child-done t (v .few) rest l (length ls) (omega arith) i m a c (leb l m) (z .there) (ltb-true (length t) 36 f)
+      (rw e at (z .stop)) (omega (arith, v .good i .wide, v .good i .top)) (omega (arith, g .under, v .good i .top)) e)
 
 pub insert-outcome : (ls hs : List ℕ) (t : List Bucket) → Inv ls hs t → length ls < 320 → (loads : List ℕ)
     → (13 ≤ length ls → loads ≡ lastLoads ls) → (rest : List ℕ) (l : ℕ) → 0 < l → l ≤ 150001
@@ -227,10 +249,10 @@ module _ (ls : List ℕ) (ok : Loads ls) (open-end : length ls < 320) (t : List 
   outcome rest = let v = built-inv ls ok t e in insert-outcome ls (v .0) t (v .1) open-end loads same rest l lo hi
 
   -- the plan closes the segment exactly where its loads and then the new one need bucket 36
-  pub plan-needs : (rest : List ℕ) → needsBucket36 ls l ≡ true → planOn (treeBytes t) (length t) (length ls) loads l ≡ noRoom
-  plan-needs rest h =
-      subst (λ (o : Option (List Bucket)). Outcome t rest l (length ls) o (planOn (treeBytes t) (length t) (length ls) loads l))
-      (needs-none ls l t e h) (outcome rest)
+  pub plan-needs : needsBucket36 ls l ≡ true → planOn (treeBytes t) (length t) (length ls) loads l ≡ noRoom
+  plan-needs h =
+      subst (λ (o : Option (List Bucket)). Outcome t [] l (length ls) o (planOn (treeBytes t) (length t) (length ls) loads l))
+      (needs-none ls l t e h) (outcome [])
 
   -- else its writes give the bytes of the tree with the load
   pub plan-done : (rest : List ℕ) (u : List Bucket) → treeOf (ls ++ (l ∷ [])) ≡ some u
@@ -238,3 +260,16 @@ module _ (ls : List ℕ) (ok : Loads ls) (open-end : length ls < 320) (t : List 
   plan-done rest u f =
       subst (λ (o : Option (List Bucket)). Outcome t rest l (length ls) o (planOn (treeBytes t) (length t) (length ls) loads l))
       (sym (tree-snoc ls l t e) ∙ f) (outcome rest)
+
+  -- no damage is met, and the segment is closed exactly where bucket 36 is needed
+  pub plan-sound : isDamaged (planOn (treeBytes t) (length t) (length ls) loads l) ≡ false
+  plan-sound =
+      if (needsBucket36 ls l)
+      (λ f. ap isDamaged (plan-needs f))
+      (λ f. plan-done [] _ (needs-not ls l t e f .2) .sound)
+
+  pub plan-room : isNoRoom (planOn (treeBytes t) (length t) (length ls) loads l) ≡ needsBucket36 ls l
+  plan-room =
+      if (needsBucket36 ls l)
+      (λ f. rw f (ap isNoRoom (plan-needs f)))
+      (λ f. rw f (plan-done [] _ (needs-not ls l t e f .2) .roomy))

@@ -5,6 +5,7 @@ pub mod Insert
 pub mod Built
 pub mod Homes
 pub mod Search
+pub mod Found
 pub mod Examples
 pub mod Places
 pub mod Coded
@@ -15,3 +16,5 @@ pub mod Fields
 pub mod Written
 pub mod Inserted
 pub mod Looked
+pub mod Clears
+pub mod ByteExamples

@@ -1,14 +1,14 @@
 -- An array of places of one width: what stands at a place, and what a write within a place does to the whole, stated once for
 -- entries and buckets. The idea: a write goes past the places before its own. Assumes nothing.
-use Prim.Native.Nat.{ℕ, zero, suc, _+_, _*_, _≤_, _<_}
-use mathlib.Core.Path.{_≡_, refl, sym, ap, _∙_}
+use Prim.Native.Nat.{ℕ, zero, suc, _+_, _-_, _*_, _≤_, _<_}
+use mathlib.Core.Path.{_≡_, sym, ap, _∙_}
 use mathlib.Core.List.{List, [], _∷_, _++_, append-assoc}
 use native.Mathlib.Nat.{mul-zero, mul-suc, mul-le-mul-left}
 use native.Mathlib.Omega.{arith}
-use lib.ListN.{length, getD, take, drop, set, length-append}
+use lib.ListN.{length, getD, take, drop, set, length-append, replicate-append-replicate}
 use lib.Seq.{take-append-le, drop-append-le, take-append-add, drop-append-add}
 use Rattle.codec.specs.Area.{part, splice, repeated}
-use Rattle.codec.proofs.Areas.{part-all, part-append-left, part-append-right, length-repeated}
+use Rattle.codec.proofs.Areas.{part-all, part-append-left, part-append-right, length-repeated, part-repeated}
 use Rattle.tree.specs.Bytes.{places}
 
 -- ---- a write into one of two joined areas
@@ -16,14 +16,45 @@ use Rattle.tree.specs.Bytes.{places}
 pub splice-left : (p q : List ℕ) (at : ℕ) (r : List ℕ) → at + length r ≤ length p → splice (p ++ q) at r ≡ splice p at r ++ q
 unfolding splice
 splice-left p q at r h =
-    rw (take-append-le at p q (omega arith), drop-append-le (at + length r) p q h, append-assoc (take at p ++ r) (drop (at + length r) p) q)
+    rw (
+      take-append-le at p q (omega arith),
+      drop-append-le (at + length r) p q h,
+      append-assoc (take at p ++ r) (drop (at + length r) p) q,
+    )
 
 pub splice-right : (p q : List ℕ) (k to : ℕ) (r : List ℕ) → length p + k ≡ to → splice (p ++ q) to r ≡ p ++ splice q k r
 unfolding splice
 splice-right p q k to r e =
     let d : to + length r ≡ length p + (k + length r) = omega arith in
     rw (d, ← e, take-append-add p q k, drop-append-add p q (k + length r))
-    (ap (λ (s : List ℕ). s ++ drop (k + length r) q) (append-assoc p (take k q) r) ∙ append-assoc p (take k q ++ r) (drop (k + length r) q))
+    (ap (λ (s : List ℕ). s ++ drop (k + length r) q) (append-assoc p (take k q) r)
+    ∙ append-assoc p (take k q ++ r) (drop (k + length r) q))
+
+-- ---- bytes
+
+-- every member of a list is a byte
+abbrev pub Bytes : List ℕ → Type 0
+Bytes p = (i : ℕ) → getD p i 0 < 256
+
+pub bytes-append : (p q : List ℕ) → Bytes p → Bytes q → Bytes (p ++ q)
+bytes-append [] q f g i = g i
+bytes-append (b ∷ p) q f g zero = f 0
+bytes-append (b ∷ p) q f g (suc i) = bytes-append p q (λ j. f (suc j)) g i
+
+pub bytes-repeated : (n v : ℕ) → v < 256 → Bytes (repeated n v)
+unfolding repeated
+bytes-repeated zero v h i = omega arith
+bytes-repeated (suc n) v h zero = h
+bytes-repeated (suc n) v h (suc i) = bytes-repeated n v h i
+
+pub bytes-places : {A : Type 0} (w : ℕ) (code : A → List ℕ) → ((a : A) → Bytes (code a)) → (n : ℕ) (items : List A)
+    → Bytes (places w code n items)
+unfolding places
+bytes-places w code f zero items i = omega arith
+bytes-places w code f (suc n) [] i =
+    bytes-append (repeated w 255) (places w code n []) (bytes-repeated w 255 (omega arith)) (bytes-places w code f n []) i
+bytes-places w code f (suc n) (a ∷ items) i =
+    bytes-append (code a) (places w code n items) (f a) (bytes-places w code f n items) i
 
 -- ---- places
 
@@ -59,24 +90,33 @@ module _ {A : Type 0} (w : ℕ) (code : A → List ℕ) (wide : (a : A) → leng
       part-append-right (code a) (places w code n items) (w * i) (w * suc i) w (omega arith) (place-fits n items i (omega arith))
       ∙ place-used n items d i (omega arith) (omega arith)
 
+  -- past the items all is 255
+  pub places-none : (n : ℕ) → places w code n [] ≡ repeated (w * n) 255
+  unfolding places repeated
+  places-none zero = let z : w * 0 ≡ 0 = mul-zero w in rw z
+  places-none (suc n) =
+      let s : w * suc n ≡ w + w * n = mul-suc w n ∙ omega arith in
+      rw (places-none n, s) (replicate-append-replicate w (w * n) 255)
+
+  pub rest-free : (n : ℕ) (items : List A) (at m : ℕ) → length items ≤ n → w * length items ≤ at → at + m ≤ w * n
+      → part (places w code n items) at m ≡ repeated m 255
+  unfolding places
+  rest-free n [] at m c h k = rw (places-none n) (part-repeated (w * n) 255 at m k)
+  rest-free zero (a ∷ items) at m c h k = absurd (omega arith)
+  rest-free (suc n) (a ∷ items) at m c h k =
+      let e = wide a in
+      let s : w * suc (length items) ≡ w * length items + w = mul-suc w (length items) in
+      let u : w * suc n ≡ w * n + w = mul-suc w n in
+      let l = length-places n items in
+      part-append-right (code a) (places w code n items) (at - w) at m (omega arith) (omega arith)
+      ∙ rest-free n items (at - w) m (omega arith) (omega arith) (omega arith)
+
   pub place-free : (n : ℕ) (items : List A) (i : ℕ) → length items ≤ i → i < n
       → part (places w code n items) (w * i) w ≡ repeated w 255
-  unfolding places
-  place-free zero items i h k = absurd (omega arith)
-  place-free (suc n) [] zero h k =
-      let e = length-repeated w 255 in
-      rw mul-zero (part-append-left (repeated w 255) (places w code n []) 0 w (omega arith) ∙ part-all (repeated w 255) w e)
-  place-free (suc n) [] (suc i) h k =
-      let e = length-repeated w 255 in
+  place-free n items i h k =
       let s : w * suc i ≡ w * i + w = mul-suc w i in
-      part-append-right (repeated w 255) (places w code n []) (w * i) (w * suc i) w (omega arith) (place-fits n [] i (omega arith))
-      ∙ place-free n [] i (omega arith) (omega arith)
-  place-free (suc n) (a ∷ items) zero h k = absurd (omega arith)
-  place-free (suc n) (a ∷ items) (suc i) h k =
-      let e = wide a in
-      let s : w * suc i ≡ w * i + w = mul-suc w i in
-      part-append-right (code a) (places w code n items) (w * i) (w * suc i) w (omega arith) (place-fits n items i (omega arith))
-      ∙ place-free n items i (omega arith) (omega arith)
+      let u : w * suc i ≤ w * n = mul-le-mul-left w k in
+      rest-free n items (w * i) w (omega arith) (mul-le-mul-left w h) (omega arith)
 
   -- a write of r at `off` within a place, which makes its item the item a
   module _ (off : ℕ) (r : List ℕ) (a : A) (narrow : off + length r ≤ w) where
@@ -90,7 +130,8 @@ module _ {A : Type 0} (w : ℕ) (code : A → List ℕ) (wide : (a : A) → leng
         let z : w * 0 + off ≡ off = rw mul-zero (omega arith) in
         rw (z, splice-left p q off r (omega arith), c)
 
-    pub write-used : (n : ℕ) (items : List A) (d : A) (i : ℕ) → i < length items → i < n → splice (code (getD items i d)) off r ≡ code a
+    pub write-used : (n : ℕ) (items : List A) (d : A) (i : ℕ) → i < length items → i < n
+        → splice (code (getD items i d)) off r ≡ code a
         → splice (places w code n items) (w * i + off) r ≡ places w code n (set items i a)
     unfolding places
     write-used zero items d i h k c = absurd (omega arith)

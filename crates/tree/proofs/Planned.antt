@@ -1,22 +1,20 @@
--- On the bytes of a built tree the plan for a load is the choice of the rules: bucket by bucket the bytes read as the tree, and the
--- descent of the rules takes the same steps. Assumes nothing.
+-- On the bytes of a built tree the plan for a load is the choice of the rules: bucket by bucket the bytes read as the tree,
+-- and the descent of the rules takes the same steps. Assumes nothing.
 use Prim.Native.Nat.{ℕ, zero, suc, _+_, _≤_, _<_}
 use mathlib.Core.Path.{_≡_, refl, ap₂, _∙_}
-use mathlib.Core.Bool.{Bool, true, false, cond}
 use mathlib.Core.Option.{Option, none, some}
-use mathlib.Core.List.{List, [], _∷_}
+use mathlib.Core.List.{List}
 use native.Mathlib.Omega.{arith}
-use lib.Dec.{eqb}
 use lib.ListN.{length}
 use borrow.Author.Tests.{ne-eqb}
 use Rattle.tree.specs.Rules.{Bucket, Kids, at, next, descend}
 use Rattle.tree.specs.Bytes.{treeBytes}
-use Rattle.tree.specs.Reading.{bucketAt, Node, nodeIn, kidsOf, nodeGood}
-use Rattle.tree.specs.Plan.{Plan, damaged, planHere, planFrom, fitted, planOn}
+use Rattle.tree.specs.Reading.{Node}
+use Rattle.tree.specs.Plan.{Plan, planHere, planFrom, fitted, planOn}
 use Rattle.tree.proofs.Held.{Inv}
 use Rattle.tree.proofs.Descent.{step}
 use Rattle.tree.proofs.Coded.{nodeOf}
-use Rattle.tree.proofs.Read.{ReadsAs, reads-inv}
+use Rattle.tree.proofs.Read.{reads-inv}
 
 module _ (ls hs : List ℕ) (t : List Bucket) (v : Inv ls hs t) (few : length ls ≤ 320) (loads : List ℕ) (l : ℕ) where
   -- the plan of the rules for a load whose descent ends at bucket i

@@ -1,19 +1,18 @@
 -- The bytes of a built tree read back as its buckets, and every bucket is without damage. Assumes nothing.
-use Prim.Native.Nat.{ℕ, zero, suc, _+_, _*_, _≤_, _<_}
-use mathlib.Core.Path.{_≡_, refl, sym, ap, _∙_}
-use mathlib.Core.Bool.{Bool, true, false, _&&_}
+use Prim.Native.Nat.{ℕ, zero, suc, _≤_, _<_}
+use mathlib.Core.Path.{_≡_, refl, ap, _∙_}
+use mathlib.Core.Bool.{true}
 use mathlib.Core.Option.{Option, none, some}
 use mathlib.Core.List.{List, [], _∷_, List·Memᴰ, List·Memᴰ·head, List·Memᴰ·tail}
 use native.Mathlib.Omega.{arith}
-use lib.Dec.{ltb, leb}
 use lib.ListN.{length, getD}
 use borrow.Author.Tests.{lt-ltb, le-leb}
 use Rattle.tree.specs.Rules.{Entry, Bucket, Kids, whole, split, root, at, treeOf, Loads}
 use Rattle.tree.specs.Bytes.{bucketBytes, treeBytes}
 use Rattle.tree.specs.Reading.{bucketAt, Node, nodeIn, kidsOf, childGood, kidsGood, positionsGood, nodeGood}
-use Rattle.tree.proofs.Held.{Child, Parts, Good, Inv}
+use Rattle.tree.proofs.Held.{Child, Parts, Inv}
 use Rattle.tree.proofs.Built.{built-inv}
-use Rattle.tree.proofs.Homes.{Placed, placed}
+use Rattle.tree.proofs.Homes.{placed}
 use Rattle.tree.proofs.Places.{place-used}
 use Rattle.tree.proofs.Coded.{length-bucket, FitsChild, FitsKids, Fits, nodeOf, node-back, kids-back}
 
@@ -39,7 +38,8 @@ good-kids t i x y whole p = refl
 good-kids t i x y (split m a c) p =
     rw (lt-ltb x m (p .over), le-leb m y (p .under), good-child t i x m a (p .left), good-child t i m y c (p .right))
 
-good-positions : (count : ℕ) (es : List Entry) → ((e : Entry) → List·Memᴰ e es → e .position < count) → positionsGood count es ≡ true
+good-positions : (count : ℕ) (es : List Entry) → ((e : Entry) → List·Memᴰ e es → e .position < count)
+    → positionsGood count es ≡ true
 unfolding positionsGood
 good-positions count [] f = refl
 good-positions count (e ∷ es) f =

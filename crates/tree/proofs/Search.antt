@@ -1,7 +1,7 @@
--- A search of a built tree finds each position whose load is from k1 to k2 once, and no other. The idea: of the buckets on a wanted
--- load's own way from the root, the first that is not yet read is reached. Assumes nothing.
+-- A search of a built tree finds each position whose load is from k1 to k2 once, and no other. The idea: of the buckets on
+-- a wanted load's own way from the root, the first that is not yet read is reached. Assumes nothing.
 use Prim.Native.Nat.{ℕ, zero, suc, _+_, _≤_, _<_}
-use mathlib.Core.Path.{_≡_, refl, sym, _∙_, ap, subst}
+use mathlib.Core.Path.{_≡_, refl, sym, _∙_}
 use mathlib.Core.Bool.{Bool, true, false, cond, _&&_}
 use mathlib.Core.Option.{Option, none, some}
 use mathlib.Core.List.{List, [], _∷_, _++_}
@@ -9,7 +9,7 @@ use native.Mathlib.Omega.{arith}
 use lib.Dec.{leb, ltb, eqb}
 use lib.ListN.{length, getD}
 use borrow.Author.Tests.{ltb-true, ltb-false, leb-true, leb-false, eqb-true, eqb-false, lt-ltb, le-leb, eq-eqb, ne-eqb}
-use Rattle.tree.specs.Rules.{Entry, Bucket, Kids, whole, split, at, next, treeOf, Loads}
+use Rattle.tree.specs.Rules.{Bucket, Kids, whole, split, at, next, treeOf, Loads}
 use Rattle.tree.specs.Search.{within, reachedWith, reached, hits, findFrom, find, times}
 use Rattle.tree.proofs.Held.{Way, start, down, Child, Parts, Good, Housed, Inv}
 use Rattle.tree.proofs.Descent.{if, none-some}
@@ -96,7 +96,10 @@ module _ (k1 k2 : ℕ) where
     found-none zero b r f = refl
     found-none (suc n) b r f =
         times-append p (cond (r b) (hits k1 k2 (at t b .entries)) []) _
-        ∙ rw (times-if (r b) (hits k1 k2 (at t b .entries)) (f b (omega arith)), found-none n (suc b) _ (λ i h. f i (omega arith)))
+        ∙ rw (
+          times-if (r b) (hits k1 k2 (at t b .entries)) (f b (omega arith)),
+          found-none n (suc b) _ (λ i h. f i (omega arith)),
+        )
 
     module _ (l h : ℕ) (low : k1 ≤ l) (high : l ≤ k2) (good : (i : ℕ) → Good t i (at t i))
         (counts : (i : ℕ) → times p (hits k1 k2 (at t i .entries)) ≡ cond (eqb h i) 1 0) where
@@ -132,7 +135,8 @@ module _ (k1 k2 : ℕ) where
       before n rest b r i u s o end =
           rw (
             times-if (r b) (hits k1 k2 (at t b .entries)) (elsewhere b (omega (arith, rises o))),
-            rest (suc b) (cond (r b) (reached k1 k2 (at t b .kids) r) r) i u (after-keeps (r b) (at t b .kids) r i s) o (omega arith),
+            rest (suc b) (cond (r b) (reached k1 k2 (at t b .kids) r) r) i u (after-keeps (r b) (at t b .kids) r i s) o
+                (omega arith),
           )
 
       found-once : (n : ℕ) → Rest n
@@ -165,7 +169,8 @@ module _ (k1 k2 : ℕ) (ls hs : List ℕ) (t : List Bucket) (v : Inv ls hs t) (p
   find-inv =
       if (ltb p (length ls))
       (λ f. rw f (find-below (ltb-true p (length ls) f) (within k1 k2 (getD ls p 0)) refl))
-      (λ f. rw f (found-none k1 k2 t p (length t) 0 (λ j. eqb j 0) (λ i _. times-past k1 k2 p ls hs t v (ltb-false p (length ls) f) i)))
+      (λ f. let h : length ls ≤ p = ltb-false p (length ls) f in
+      rw f (found-none k1 k2 t p (length t) 0 (λ j. eqb j 0) (λ i _. times-past k1 k2 p ls hs t v h i)))
 
 -- a search of the tree of any loads finds position p once if load p is from k1 to k2, and else not
 pub find-exact : (ls : List ℕ) → Loads ls → (t : List Bucket) → treeOf ls ≡ some t → (k1 k2 p : ℕ)

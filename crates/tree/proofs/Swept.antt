@@ -1,23 +1,22 @@
--- A search of a built tree's bytes meets no damage and finds what the search of the tree finds: each step reads the bucket that the
--- rules have there. Assumes nothing.
+-- A search of a built tree's bytes meets no damage and finds what the search of the tree finds: each step reads the bucket
+-- that the rules have there. Assumes nothing.
 use Prim.Native.Nat.{ℕ, zero, suc, _+_, _≤_, _<_}
 use mathlib.Core.Path.{_≡_, refl, sym, ap, _∙_}
-use mathlib.Core.Bool.{Bool, true, false, cond, _&&_}
-use mathlib.Core.Option.{Option, none, some}
-use mathlib.Core.List.{List, [], _∷_, _++_, List·Memᴰ, List·Memᴰ·head, List·Memᴰ·tail}
+use mathlib.Core.Bool.{Bool, true, false, cond}
+use mathlib.Core.Option.{some}
+use mathlib.Core.List.{List, [], _∷_, List·Memᴰ, List·Memᴰ·head, List·Memᴰ·tail}
 use native.Mathlib.Omega.{arith}
-use lib.Dec.{ltb, eqb}
+use lib.Dec.{eqb}
 use lib.ListN.{length, getD}
 use borrow.Author.Tests.{eq-eqb}
-use Rattle.tree.specs.Rules.{Entry, Bucket, Kids, at, treeOf, Loads}
-use Rattle.tree.specs.Search.{within, reached, hits, findFrom, find, times}
+use Rattle.tree.specs.Rules.{Entry, Bucket, at, treeOf, Loads}
+use Rattle.tree.specs.Search.{within, reached, findFrom, find}
 use Rattle.tree.specs.Bytes.{treeBytes}
-use Rattle.tree.specs.Reading.{Node, nodeIn, bucketAt, kidsOf, nodeGood}
-use Rattle.tree.specs.Sweep.{recordsGood, andThen, nodeAt, visitGood, sweepFrom, sweepOn}
+use Rattle.tree.specs.Reading.{Node, nodeIn, bucketAt}
+use Rattle.tree.specs.Sweep.{recordsGood, visitGood, sweepFrom, sweepOn}
 use Rattle.tree.proofs.Held.{Inv}
 use Rattle.tree.proofs.Built.{built-inv}
 use Rattle.tree.proofs.Homes.{placed}
-use Rattle.tree.proofs.Coded.{nodeOf}
 use Rattle.tree.proofs.Read.{ReadsAs, reads-inv}
 
 cond-true : (b c : Bool) → c ≡ true → cond b c true ≡ true

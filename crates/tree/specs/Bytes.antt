@@ -1,5 +1,6 @@
--- A tree in bytes (document 01, "Tree"): 36 places of 128 bytes, in NOR from 0 and in pages 20 to 28 of a slot. Assumes nothing.
-use Prim.Native.Nat.{ℕ, zero, suc}
+-- A tree in bytes (document 01, "Tree"): 36 places of 128 bytes, in NOR from 0 and in pages 20 to 28 of a slot. Assumes
+-- nothing.
+use Prim.Native.Nat.{ℕ, zero, suc, _+_, _*_, _/_, _%_}
 use mathlib.Core.Option.{Option, none, some}
 use mathlib.Core.List.{List, [], _∷_, _++_}
 use Rattle.codec.specs.Area.{repeated}
@@ -40,10 +41,19 @@ rightNumber (split m left right) = childNumber right
 -- "Bucket: min x, max y, mid (4 bytes each), left and right child (1 each, 255 none), ten bytes 255, then 13 entries of 8"
 unfoldable pub bucketBytes : Bucket → List ℕ
 bucketBytes b =
-    bytes 4 (b .x) ++ bytes 4 (b .y) ++ bytes 4 (midNumber (b .kids)) ++ bytes 1 (leftNumber (b .kids)) ++ bytes 1 (rightNumber (b .kids))
+    bytes 4 (b .x) ++ bytes 4 (b .y) ++ bytes 4 (midNumber (b .kids))
+    ++ bytes 1 (leftNumber (b .kids))
+    ++ bytes 1 (rightNumber (b .kids))
     ++ repeated 10 255
     ++ places 8 entryBytes 13 (b .entries)
 
 -- "NOR holds buckets of 128 bytes from 0"; "20–28 tree, four buckets a page"; "Unused bucket places in a tree page are 255"
 unfoldable pub treeBytes : List Bucket → List ℕ
 treeBytes t = places 128 bucketBytes 36 t
+
+-- "A bucket number becomes a page and an offset by one rule"
+abbrev pub bucketPage : ℕ → ℕ
+bucketPage b = 20 + b / 4
+
+abbrev pub bucketOffset : ℕ → ℕ
+bucketOffset b = 128 * (b % 4)

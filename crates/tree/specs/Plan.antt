@@ -1,8 +1,8 @@
--- Where an entry goes in a tree's bytes, from reads alone (document 01, "Tree" and "Search": "An append reads the buckets on its
--- path"). Assumes nothing.
+-- Where an entry goes in a tree's bytes, from reads alone (document 01, "Tree" and "Search": "An append reads the buckets
+-- on its path"). Assumes nothing.
 use Prim.Native.Nat.{ℕ, zero, suc}
 use mathlib.Core.Bool.{Bool, true, false, cond}
-use mathlib.Core.Option.{Option, none, some}
+use mathlib.Core.Option.{none, some}
 use mathlib.Core.List.{List}
 use lib.Dec.{leb, ltb, eqb}
 use lib.ListN.{length}
@@ -43,8 +43,8 @@ planHere n b loads l whole =
     (splitBucket b m (sideByte l m) (lowEnd l (n .x) m) (highEnd l (n .y) m))
 planHere n b loads l (split m left right) = newChild b (sideByte l m) (lowEnd l (n .x) m) (highEnd l (n .y) m)
 
--- down from bucket b; each bucket on the path is checked whole. A child's number is above its parent's and below the bucket count,
--- so as many steps as there are buckets are enough.
+-- down from bucket b; each bucket on the path is checked whole. A child's number is above its parent's and below the bucket
+-- count, so as many steps as there are buckets are enough.
 unfoldable pub planFrom : List ℕ → ℕ → ℕ → List ℕ → ℕ → ℕ → ℕ → Plan
 planFrom area buckets count loads l zero b = damaged
 planFrom area buckets count loads l (suc steps) b =

@@ -1,6 +1,7 @@
--- A bucket as it is read from any bytes, and the damage that may be met in it (document 01, "Search", last paragraph). Assumes nothing.
+-- A bucket as it is read from any bytes, and the damage that may be met in it (document 01, "Search", last paragraph).
+-- Assumes nothing.
 use Prim.Native.Nat.{ℕ, zero, suc, _+_, _*_}
-use mathlib.Core.Bool.{Bool, true, false, cond, _&&_}
+use mathlib.Core.Bool.{Bool, true, cond, _&&_}
 use mathlib.Core.Option.{Option, none, some}
 use mathlib.Core.List.{List, [], _∷_}
 use lib.Dec.{leb, ltb, eqb}

@@ -39,8 +39,8 @@ abbrev pub next : Kids → ℕ → Option ℕ
 next whole l = none
 next (split m left right) l = cond (leb l m) left right
 
--- "Descend from the root": the bucket where the descent of a load from bucket i ends. A child's number is above its parent's, so
--- as many steps as there are buckets are enough.
+-- "Descend from the root": the bucket where the descent of a load from bucket i ends. A child's number is above its
+-- parent's, so as many steps as there are buckets are enough.
 unfoldable pub descend : ℕ → List Bucket → ℕ → ℕ → ℕ
 descend zero t l i = i
 descend (suc steps) t l i = elim (next (at t i .kids) l) [ none ↦ i | some c ↦ descend steps t l c ]
@@ -65,8 +65,8 @@ withChild t i q m left right e = set t i (linked (at t i) q m left right (length
 unfoldable pub allocate : List Bucket → ℕ → ℕ → Option ℕ → Option ℕ → Entry → Option (List Bucket)
 allocate t i m left right e = cond (ltb (length t) 36) (some (withChild t i (leb (e .load) m) m left right e)) none
 
--- The descent has ended at bucket i: the entry goes into an unsplit bucket that is not full ("a bucket with 13 is full"), or below
--- a split one. "An unsplit full bucket is split" at m, "and the new child takes the entry."
+-- The descent has ended at bucket i: the entry goes into an unsplit bucket that is not full ("a bucket with 13 is full"),
+-- or below a split one. "An unsplit full bucket is split" at m, "and the new child takes the entry."
 unfoldable pub put : List Bucket → ℕ → ℕ → Entry → Kids → Option (List Bucket)
 put t i m e whole =
     cond (ltb (length (at t i .entries)) 13) (some (set t i (added (at t i) e))) (allocate t i m none none e)

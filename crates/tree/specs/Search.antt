@@ -23,8 +23,8 @@ abbrev pub reached : ℕ → ℕ → Kids → (ℕ → Bool) → ℕ → Bool
 reached k1 k2 whole r j = r j
 reached k1 k2 (split m left right) r j = reachedWith (ltb m k2) right (reachedWith (leb k1 m) left r) j
 
--- the positions of the entries whose load is from k1 to k2; a split bucket has entries too ("Visiting only leaves: split buckets
--- keep their lifts")
+-- the positions of the entries whose load is from k1 to k2; a split bucket has entries too ("Visiting only leaves: split
+-- buckets keep their lifts")
 unfoldable pub hits : ℕ → ℕ → List Entry → List ℕ
 hits k1 k2 [] = []
 hits k1 k2 (e ∷ es) = cond (within k1 k2 (e .load)) (e .position ∷ hits k1 k2 es) (hits k1 k2 es)

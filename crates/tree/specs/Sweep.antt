@@ -1,7 +1,7 @@
--- A search's way through a tree's bytes (document 01, "Search"): the buckets in rising order of their numbers, with the set of those
--- that are reached. Assumes nothing.
+-- A search's way through a tree's bytes (document 01, "Search"): the buckets in rising order of their numbers, with the set
+-- of those that are reached. Assumes nothing.
 use Prim.Native.Nat.{ℕ, zero, suc}
-use mathlib.Core.Bool.{Bool, true, false, cond, _&&_}
+use mathlib.Core.Bool.{Bool, true, cond, _&&_}
 use mathlib.Core.Option.{Option, none, some}
 use mathlib.Core.List.{List, [], _∷_, _++_}
 use lib.Dec.{eqb}
@@ -34,7 +34,8 @@ module _ (area : List ℕ) (buckets count : ℕ) (recorded : ℕ → ℕ) (k1 k2
   sweepFrom zero b r = some []
   sweepFrom (suc n) b r =
       cond (cond (r b) (visitGood b) true)
-      (andThen (cond (r b) (hits k1 k2 (nodeAt b .entries)) []) (sweepFrom n (suc b) (cond (r b) (reached k1 k2 (kidsOf (nodeAt b)) r) r)))
+      (andThen (cond (r b) (hits k1 k2 (nodeAt b .entries)) [])
+      (sweepFrom n (suc b) (cond (r b) (reached k1 k2 (kidsOf (nodeAt b)) r) r)))
       none
 
   -- from the root on: the matching positions, or damage

@@ -1,5 +1,5 @@
--- What an insertion writes (document 01, "Search": "the NOR bytes it writes: a new bucket's range, a mid, a child number, an entry's
--- load and position"). Assumes nothing.
+-- What an insertion writes (document 01, "Search": "the NOR bytes it writes: a new bucket's range, a mid, a child number,
+-- an entry's load and position"). Assumes nothing.
 use Prim.Native.Nat.{ℕ, _+_, _*_}
 use mathlib.Core.Bool.{Bool, _&&_}
 use mathlib.Core.List.{List}
@@ -40,8 +40,8 @@ rangeWrite b x y = record { to = 128 * b; len = 8; value = pair x y }
 abbrev pub entryWrite : ℕ → ℕ → ℕ → ℕ → Write
 entryWrite b i l p = record { to = 128 * b + (24 + 8 * i); len = 6; value = pair l p }
 
--- the load l with position p goes where the plan says; a new bucket gets the number n. Where there was no room, the segment has been
--- closed and a new tree begins.
+-- the load l with position p goes where the plan says; a new bucket gets the number n. Where there was no room, the segment
+-- has been closed and a new tree begins.
 unfoldable pub writesOf : Plan → ℕ → ℕ → ℕ → Writes
 writesOf damaged n l p = record { mid = nothing; child = nothing; range = nothing; entry = nothing }
 writesOf noRoom n l p = record { mid = nothing; child = nothing; range = rangeWrite 0 0 150001; entry = entryWrite 0 0 l p }
