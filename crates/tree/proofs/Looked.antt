@@ -58,6 +58,12 @@ entries-more s (suc n) i h e =
     let d : suc n - 1 ≡ n = omega arith in
     rw (ne-eqb (numberAt s (28 + 8 * i) 2) 65535 e, add-one i, d)
 
+-- where there is an entry left, it is the one at i
+pub entries-some : (s : List ℕ) (n i : ℕ) → 0 < length (entriesFrom s n i) → entriesFrom s n i ≡ entryIn s i ∷ entriesFrom s (n - 1) (i + 1)
+entries-some s n i h =
+    entries-more s n i (omega (arith, entries-few s n i)) (λ e.
+    let z : length (entriesFrom s n i) ≡ 0 = ap length (entries-end s n i e) in omega arith)
+
 -- i entries have been passed, `good` if all their positions are below the count; those from i on are left
 pub record Passed (s : List ℕ) (count : ℕ) (good : Bool) (i : ℕ) : Type 0 where
   pub low : i ≤ 13
