@@ -1,5 +1,6 @@
 -- `sweep::entries` meets its contract: the entries passed and those left are the bucket's.
 use Prim.Native.Nat.{_-_}
+use native.Mathlib.Omega.{arith}
 use Rattle.tree.specs.Reading.{entriesFrom}
 use Rattle.sweep.specs.Turns.{codesOf, withEntries}
 use Rattle.sweep.proofs.Passing.{Passed, passed-none, position-below, passed-more, passed-all}
@@ -19,7 +20,7 @@ loop-holds c = passed-none _ _ _ _ _ _ (c .before .before .before .pre .0 .1) (c
 
 entry-at-requires : tie.Need-entry-at-requires Inv-loop μ-loop
 entry-at-requires c κs =
-    let p = position-below _ _ _ _ _ _ _ _ (c .before .loop .inv) (c .loop-test .taken) in
+    let p = position-below _ _ _ _ _ _ _ _ (c .before .loop .inv) (omega arith) in
     ((p .0, c .before .before .before .before .before .pre .0 .0, p .1), c .before .before .before .before .before .pre .1 .1)
 
 add-i : tie.Need-add-i Inv-loop μ-loop
@@ -29,10 +30,10 @@ loop-less : tie.Need-loop-less Inv-loop μ-loop
 loop-less c = search needs
 
 loop-again : tie.Need-loop-again Inv-loop μ-loop
-loop-again c = rw (c .entry-at .ensures) (passed-more _ _ _ _ _ _ _ _ (c .before .before .loop .inv) (c .before .loop-test .taken))
+loop-again c = rw (c .entry-at .ensures) (passed-more _ _ _ _ _ _ _ _ (c .before .before .loop .inv) (omega arith))
 
 returns : tie.Need-returns Inv-loop μ-loop
-returns c = passed-all _ _ _ _ _ _ _ _ (c .before .loop .inv) (c .loop-test .left)
+returns c = passed-all _ _ _ _ _ _ _ _ (c .before .loop .inv) (omega arith)
 
 pub entries-spec : {M : Type 1} → statement M
 entries-spec =
