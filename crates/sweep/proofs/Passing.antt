@@ -14,26 +14,15 @@ use Rattle.tree.specs.Rules.{Entry}
 use Rattle.tree.specs.Reading.{entryIn, entriesFrom, positionsGood}
 use Rattle.tree.specs.Search.{within, hits}
 use Rattle.tree.specs.Sweep.{recordsGood}
-use Rattle.tree.proofs.Looked.{entries-few, entries-some}
+use Rattle.tree.proofs.Clears.{both}
+use Rattle.tree.proofs.Looked.{and-true, and-assoc, entries-few, entries-some}
 use Rattle.sweep.specs.declared.Range.{Range}
 use Rattle.sweep.specs.declared.Sweep.{Sweep}
 use Rattle.sweep.specs.Turns.{withEntry, withEntries}
 
-pub and-both : (a b : Bool) → (a && b) ≡ true → (a ≡ true) × (b ≡ true)
-and-both true b e = (refl, e)
-and-both false b e = (e, let z : false ≡ true = e in cc)
-
 empty : (es : List Entry) → length es ≡ 0 → es ≡ []
 empty [] h = refl
 empty (e ∷ es) h = absurd (omega arith)
-
-and-assoc : (a b c : Bool) → ((a && b) && c) ≡ (a && (b && c))
-and-assoc true b c = refl
-and-assoc false b c = refl
-
-and-true : (a : Bool) → a ≡ (a && true)
-and-true true = refl
-and-true false = refl
 
 abbrev swept : Bool → List ℕ → Sweep
 swept g ws = record { good = g; set = record { words = ws } }
@@ -69,7 +58,7 @@ module _ (bucket : List ℕ) (count used : ℕ) (codes : ℕ → ℕ) (r : Range
     judged : i < used
         → (ltb (entryIn bucket i .position) count ≡ true) × (positionsGood count (entriesFrom bucket (13 - i - 1) (i + 1)) ≡ true)
     unfolding positionsGood
-    judged h = and-both (ltb (entryIn bucket i .position) count) _ (rw (next h) at (p .good))
+    judged h = both (ltb (entryIn bucket i .position) count) _ (rw (next h) at (p .good))
 
     -- the position of the next entry is a lift's
     pub position-below : i < used → (i < 13) × (entryIn bucket i .position < count)
@@ -105,7 +94,7 @@ module _ (codes : ℕ → ℕ) (r : Range) where
 
   pub entries-are : (es : List Entry) (s : Sweep) → withEntries codes r es s ≡ together es s
   unfolding withEntries recordsGood insertAll hits
-  entries-are [] s = ap (λ (g : Bool). swept g (s .set .words)) (and-true (s .good))
+  entries-are [] s = ap (λ (g : Bool). swept g (s .set .words)) (sym (and-true (s .good)))
   entries-are (e ∷ es) s = go (within (r .k1) (r .k2) (e .load)) refl (λ u. entries-are es u)
     where
       go : (q : Bool) → within (r .k1) (r .k2) (e .load) ≡ q

@@ -19,6 +19,7 @@ use Rattle.tree.specs.Reading.{bucketAt, entriesFrom, nodeIn, childAt, kidsOf, 
 use Rattle.tree.specs.Search.{reached, hits}
 use Rattle.tree.specs.Sweep.{recordsGood, andThen, sweepFrom, sweepOn}
 use Rattle.tree.specs.Seen.{headOf, seenNode}
+use Rattle.tree.proofs.Clears.{both}
 use Rattle.tree.specs.declared.Node.{Node}
 use Rattle.sweep.specs.declared.Range.{Range}
 use Rattle.sweep.specs.declared.Records.{Records}
@@ -27,14 +28,14 @@ use Rattle.sweep.specs.declared.Turn.{Turn}
 use Rattle.sweep.specs.Swept.{noneSwept, sweptFrom, sweptOf}
 use Rattle.sweep.specs.Turns.{isDue, HasBit, codesOf, withEntries, leadsTo, onward}
 use Rattle.sweep.proofs.Mask.{due-root}
-use Rattle.sweep.proofs.Passing.{and-both, together, entries-are}
+use Rattle.sweep.proofs.Passing.{together, entries-are}
 
 -- ---- a bucket without damage
 
 child-bit : (b buckets c : ℕ) → buckets ≤ 36 → childGood b buckets (childAt c) ≡ true → HasBit c
 child-bit b buckets c few e h =
     let g : (ltb b c && ltb c buckets) ≡ true = rw (ne-eqb c 255 h) at e in
-    omega (arith, ltb-true c buckets (and-both (ltb b c) (ltb c buckets) g .1))
+    omega (arith, ltb-true c buckets (both (ltb b c) (ltb c buckets) g .1))
 
 -- what the code relies on in a bucket that it opens
 pub record Opened (bucket : List ℕ) (count : ℕ) (n : Node) : Type 0 where
@@ -49,8 +50,8 @@ module _ (bucket : List ℕ) (b buckets count : ℕ) (n : Node) (few : buckets �
   opened =
       let m : Reading.Node = nodeIn bucket in
       let g : nodeGood m b buckets count ≡ true = sym (ap (λ (k : Node). k .good) is) ∙ good in
-      let p = and-both (ltb (m .x) (m .y) && leb (m .y) 150001 && kidsGood b buckets (m .x) (m .y) (kidsOf m)) (positionsGood count (m .entries)) g in
-      let q = and-both (ltb (m .x) (m .y) && leb (m .y) 150001) (kidsGood b buckets (m .x) (m .y) (kidsOf m)) (p .0) in
+      let p = both (ltb (m .x) (m .y) && leb (m .y) 150001 && kidsGood b buckets (m .x) (m .y) (kidsOf m)) (positionsGood count (m .entries)) g in
+      let q = both (ltb (m .x) (m .y) && leb (m .y) 150001) (kidsGood b buckets (m .x) (m .y) (kidsOf m)) (p .0) in
       record {
         positions = p .1;
         used = ap (λ (k : Node). k .used) is;
@@ -64,8 +65,8 @@ module _ (bucket : List ℕ) (b buckets count : ℕ) (n : Node) (few : buckets �
           let m : Reading.Node = nodeIn bucket in
           let a : (ltb (m .x) (m .mid) && leb (m .mid) (m .y) && (childGood b buckets (childAt (m .left)) && childGood b buckets (childAt (m .right)))) ≡ true =
           rw (ne-eqb (m .mid) noMid h) at e in
-          let c = and-both (ltb (m .x) (m .mid) && leb (m .mid) (m .y)) (childGood b buckets (childAt (m .left)) && childGood b buckets (childAt (m .right))) a in
-          let d = and-both (childGood b buckets (childAt (m .left))) (childGood b buckets (childAt (m .right))) (c .1) in
+          let c = both (ltb (m .x) (m .mid) && leb (m .mid) (m .y)) (childGood b buckets (childAt (m .left)) && childGood b buckets (childAt (m .right))) a in
+          let d = both (childGood b buckets (childAt (m .left))) (childGood b buckets (childAt (m .right))) (c .1) in
           (child-bit b buckets (m .left) few (d .0), child-bit b buckets (m .right) few (d .1))
 
 -- ---- sets
@@ -109,7 +110,7 @@ module _ (tree : List ℕ) (codes : ℕ → ℕ) (g : Records) (r : Range) (b : 
     pub turn-spoilt : node .good ≡ false → (u : Turn) → u .good ≡ false → (n : ℕ) → onward tree codes g r n (suc b) u ≡ onward tree codes g r (suc n) b t
     unfolding onward sweepFrom
     turn-spoilt e u f n =
-        let d = and-both (t .good) (isDue (t .due) b) due in
+        let d = both (t .good) (isDue (t .due) b) due in
         rw (f, d .0, d .1, good-is, e)
 
     pub turn-opens : node .good ≡ true → (more : ℕ) (found : Sweep)
@@ -118,7 +119,7 @@ module _ (tree : List ℕ) (codes : ℕ → ℕ) (g : Records) (r : Range) (b : 
         → (n : ℕ) → onward tree codes g r n (suc b) (record { good = found .good; due = more; set = found .set }) ≡ onward tree codes g r (suc n) b t
     unfolding onward sweepFrom seenNode nodeIn kidsOf
     turn-opens e more found reaches finds n =
-        let d = and-both (t .good) (isDue (t .due) b) due in
+        let d = both (t .good) (isDue (t .due) b) due in
         let es : List Entry = entriesFrom (bucketAt tree b) 13 0 in
         let same : isDue more ≡ reached (r .k1) (r .k2) (kidsOf (nodeIn (bucketAt tree b))) (isDue (t .due)) = fun-ext (rw is at reaches) in
         ap (λ (s : Sweep). onward tree codes g r n (suc b) (record { good = s .good; due = more; set = s .set }))

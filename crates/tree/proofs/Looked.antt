@@ -22,11 +22,11 @@ use Rattle.tree.specs.declared.Node.{Node}
 pub place-in-area : (b : Bucket) → (placeOf b .page .0 - 20) * 512 + placeOf b .offset ≡ 128 * b .0
 place-in-area b = omega arith
 
-and-true : (a : Bool) → (a && true) ≡ a
+pub and-true : (a : Bool) → (a && true) ≡ a
 and-true true = refl
 and-true false = refl
 
-and-assoc : (a b c : Bool) → ((a && b) && c) ≡ (a && (b && c))
+pub and-assoc : (a b c : Bool) → ((a && b) && c) ≡ (a && (b && c))
 and-assoc true b c = refl
 and-assoc false b c = refl
 
