@@ -20,6 +20,7 @@ use Rattle.tree.specs.Search.{reached, hits}
 use Rattle.tree.specs.Sweep.{recordsGood, andThen, sweepFrom, sweepOn}
 use Rattle.tree.specs.Seen.{headOf, seenNode}
 use Rattle.tree.proofs.Clears.{both}
+use Rattle.tree.proofs.Looked.{sound}
 use Rattle.tree.specs.declared.Node.{Node}
 use Rattle.sweep.specs.declared.Range.{Range}
 use Rattle.sweep.specs.declared.Records.{Records}
@@ -46,27 +47,22 @@ pub record Opened (bucket : List ℕ) (count : ℕ) (n : Node) : Type 0 where
 module _ (bucket : List ℕ) (b buckets count : ℕ) (n : Node) (few : buckets ≤ 36) (is : n ≡ seenNode bucket b buckets count)
     (good : n .good ≡ true) where
   pub opened : Opened bucket count n
-  unfolding seenNode nodeIn nodeGood kidsOf
+  unfolding seenNode nodeIn kidsOf
   opened =
-      let m : Reading.Node = nodeIn bucket in
-      let g : nodeGood m b buckets count ≡ true = sym (ap (λ (k : Node). k .good) is) ∙ good in
-      let p = both (ltb (m .x) (m .y) && leb (m .y) 150001 && kidsGood b buckets (m .x) (m .y) (kidsOf m)) (positionsGood count (m .entries)) g in
-      let q = both (ltb (m .x) (m .y) && leb (m .y) 150001) (kidsGood b buckets (m .x) (m .y) (kidsOf m)) (p .0) in
+      let v = sound (nodeIn bucket) b buckets count (sym (ap (λ (k : Node). k .good) is) ∙ good) in
       record {
-        positions = p .1;
+        positions = v .positions;
         used = ap (λ (k : Node). k .used) is;
-        kids = λ h. rw is (bits (λ e. h (ap (λ (k : Node). k .mid) is ∙ e)) (q .1));
+        kids = λ h. rw is (bits (nodeIn bucket) (λ e. h (ap (λ (k : Node). k .mid) is ∙ e)) (v .kids));
       }
     where
-      bits : (nodeIn bucket .mid ≡ noMid → ⊥)
-          → kidsGood b buckets (nodeIn bucket .x) (nodeIn bucket .y) (kidsOf (nodeIn bucket)) ≡ true
-          → HasBit (nodeIn bucket .left) × HasBit (nodeIn bucket .right)
-      bits h e =
-          let m : Reading.Node = nodeIn bucket in
-          let a : (ltb (m .x) (m .mid) && leb (m .mid) (m .y) && (childGood b buckets (childAt (m .left)) && childGood b buckets (childAt (m .right)))) ≡ true =
-          rw (ne-eqb (m .mid) noMid h) at e in
-          let c = both (ltb (m .x) (m .mid) && leb (m .mid) (m .y)) (childGood b buckets (childAt (m .left)) && childGood b buckets (childAt (m .right))) a in
-          let d = both (childGood b buckets (childAt (m .left))) (childGood b buckets (childAt (m .right))) (c .1) in
+      bits : (m : Reading.Node) → (m .mid ≡ noMid → ⊥) → kidsGood b buckets (m .x) (m .y) (kidsOf m) ≡ true
+          → HasBit (m .left) × HasBit (m .right)
+      bits m h e =
+          let one : Bool = childGood b buckets (childAt (m .left)) in
+          let two : Bool = childGood b buckets (childAt (m .right)) in
+          let a : (ltb (m .x) (m .mid) && leb (m .mid) (m .y) && (one && two)) ≡ true = rw (ne-eqb (m .mid) noMid h) at e in
+          let d = both one two (both (ltb (m .x) (m .mid) && leb (m .mid) (m .y)) (one && two) a .1) in
           (child-bit b buckets (m .left) few (d .0), child-bit b buckets (m .right) few (d .1))
 
 -- ---- sets

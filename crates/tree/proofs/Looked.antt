@@ -8,13 +8,15 @@ use native.Mathlib.Numerals.{add-one}
 use native.Mathlib.Omega.{arith}
 use lib.Dec.{ltb, leb, eqb}
 use lib.ListN.{length}
-use borrow.Author.Tests.{eq-eqb, ne-eqb}
+use borrow.Author.Tests.{eq-eqb, ne-eqb, ltb-true, leb-true}
 use Rattle.codec.specs.Number.{numberAt}
 use Rattle.tree.specs.Rules.{Entry}
 use Rattle.tree.specs.Bytes.{noMid}
+use Rattle.tree.specs.Reading as Reading
 use Rattle.tree.specs.Reading.{entryIn, entriesFrom, childAt, childGood, kidsOf, kidsGood, positionsGood, nodeIn, nodeGood}
 use Rattle.tree.specs.Place.{placeOf}
 use Rattle.tree.specs.Seen.{headOf, seenNode}
+use Rattle.tree.proofs.Clears.{both}
 use Rattle.tree.specs.declared.Bucket.{Bucket}
 use Rattle.tree.specs.declared.Node.{Node}
 
@@ -118,6 +120,28 @@ module _ (b buckets x y mid left right : ℕ) where
   kids-split e = rw (ne-eqb mid noMid e)
 
 -- ---- the whole bucket
+
+-- what a bucket without damage has
+pub record Sound (n : Reading.Node) (b buckets count : ℕ) : Type 0 where
+  pub wide : n .x < n .y
+  pub top : n .y ≤ 150001
+  pub kids : kidsGood b buckets (n .x) (n .y) (kidsOf n) ≡ true
+  pub positions : positionsGood count (n .entries) ≡ true
+
+pub sound : (n : Reading.Node) (b buckets count : ℕ) → nodeGood n b buckets count ≡ true → Sound n b buckets count
+unfolding nodeGood
+sound n b buckets count e =
+    let range : Bool = ltb (n .x) (n .y) && leb (n .y) 150001 in
+    let kids : Bool = kidsGood b buckets (n .x) (n .y) (kidsOf n) in
+    let p = both (range && kids) (positionsGood count (n .entries)) e in
+    let k = both range kids (p .0) in
+    let r = both (ltb (n .x) (n .y)) (leb (n .y) 150001) (k .0) in
+    record {
+      wide = ltb-true (n .x) (n .y) (r .0);
+      top = leb-true (n .y) 150001 (r .1);
+      kids = k .1;
+      positions = p .1;
+    }
 
 pub seen : (s : List ℕ) (b buckets count x y mid left right used : ℕ) (kids entries : Bool)
     → x ≡ numberAt s 0 4 → y ≡ numberAt s 4 4 → mid ≡ numberAt s 8 4 → left ≡ numberAt s 12 1 → right ≡ numberAt s 13 1
