@@ -1,5 +1,5 @@
--- One bucket as the code reads it: the one rule of its place, the entries counted one by one, mid and children judged by the same
--- tests in the same order. Assumes nothing.
+-- One bucket as the code reads it: the entries counted one by one, mid and children judged by the same tests in the same order.
+-- Assumes nothing.
 use Prim.Native.Nat.{ℕ, zero, suc, _+_, _-_, _*_, _≤_, _<_}
 use mathlib.Core.Path.{_≡_, refl, sym, ap, _∙_}
 use mathlib.Core.Bool.{Bool, true, false, _&&_}
@@ -14,15 +14,9 @@ use Rattle.tree.specs.Rules.{Entry}
 use Rattle.tree.specs.Bytes.{noMid}
 use Rattle.tree.specs.Reading as Reading
 use Rattle.tree.specs.Reading.{entryIn, entriesFrom, childAt, childGood, kidsOf, kidsGood, positionsGood, nodeIn, nodeGood}
-use Rattle.tree.specs.Place.{placeOf}
 use Rattle.tree.specs.Seen.{headOf, seenNode}
 use Rattle.tree.proofs.Clears.{both}
-use Rattle.tree.specs.declared.Bucket.{Bucket}
 use Rattle.tree.specs.declared.Node.{Node}
-
--- pages 20 to 28 of a slot as one area: the rule puts bucket b at byte 128 b
-pub place-in-area : (b : Bucket) → (placeOf b .page .0 - 20) * 512 + placeOf b .offset ≡ 128 * b .0
-place-in-area b = omega arith
 
 pub and-true : (a : Bool) → (a && true) ≡ a
 and-true true = refl

@@ -1,5 +1,5 @@
-// The tree of a segment's loads (document 01, "Tree"): where a bucket stands, and what is read of it. The tree's area is 4,608 bytes,
-// in NOR from 0 and in pages 20 to 28 of a slot. The rules and their laws are in specs/ and proofs/.
+// The tree of a segment's loads (document 01, "Tree"): where a bucket stands, and what is read of it. The tree's area is 4,608
+// bytes, in NOR from 0 and in pages 20 to 28 of a slot. The rules and their laws are in specs/ and proofs/.
 use flash::Page;
 ghost use mathlib.Core.Path.{_≡_};
 ghost use mathlib.Core.Bool.{not};
@@ -80,7 +80,7 @@ pub fn place_of(b: Bucket) -> Place
     let n = b.0 as usize;
     Place {
         page: Page(FIRST_PAGE + n / BUCKETS_PER_PAGE),
-        offset: n % BUCKETS_PER_PAGE * BUCKET_BYTES,
+        offset: BUCKET_BYTES * (n % BUCKETS_PER_PAGE),
     }
 }
 
