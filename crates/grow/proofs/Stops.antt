@@ -1,4 +1,5 @@
--- A bucket on the path: the child that the load goes to, and the plan where it has none, by the same tests as the rules'. Assumes nothing.
+-- A bucket on the path: the child that the load goes to, and the plan where it has none, by the same tests as the rules'.
+-- Assumes nothing.
 use Prim.Native.Nat.{ℕ, _≤_, _<_}
 use mathlib.Core.Path.{_≡_, refl, sym, ap, _∙_}
 use mathlib.Core.Bool.{Bool, true, false, cond, _&&_}
@@ -6,14 +7,13 @@ use mathlib.Core.Option.{none}
 use mathlib.Core.List.{List}
 use native.Mathlib.Omega.{arith}
 use lib.Dec.{leb, ltb, eqb}
-use lib.ListN.{length}
 use borrow.Author.Tests.{lt-ltb, le-ltb, le-leb, lt-leb, eq-eqb, ne-eqb}
 use Rattle.split.specs.Split.{midpoint}
 use Rattle.tree.specs.Rules.{next}
 use Rattle.tree.specs.Bytes.{noMid}
 use Rattle.tree.specs.Reading as Reading
 use Rattle.tree.specs.Reading.{childAt, kidsOf, nodeIn, nodeGood}
-use Rattle.tree.specs.Plan.{Plan, noRoom, intoBucket, newChild, splitBucket, planHere, fitted}
+use Rattle.tree.specs.Plan.{noRoom, intoBucket, newChild, splitBucket, planHere, fitted}
 use Rattle.tree.specs.Seen.{seenNode}
 use Rattle.tree.specs.declared.Node.{Node}
 use Rattle.tree.proofs.Clears.{both}

@@ -1,7 +1,7 @@
--- What a sweep hands back, as places: for any bytes every position found is a lift's, so the set holds exactly what the rules' sweep
--- finds; for a built tree these are the positions whose loads are in the range. Assumes nothing.
+-- What a sweep hands back, as places: for any bytes every position found is a lift's, so the set holds exactly what the rules'
+-- sweep finds; for a built tree these are the positions whose loads are in the range. Assumes nothing.
 use Prim.Native.Nat.{ℕ, zero, suc, _≤_, _<_}
-use mathlib.Core.Path.{_≡_, refl, sym, ap, _∙_}
+use mathlib.Core.Path.{_≡_, refl, _∙_}
 use mathlib.Core.Bool.{Bool, true, false, cond, _&&_}
 use mathlib.Core.Option.{Option, none, some}
 use mathlib.Core.List.{List, [], _∷_, _++_}
@@ -96,7 +96,8 @@ module _ (tree lifts tail : List ℕ) (g : Records) (r : Range) where
   pub swept-found : g .count ≤ 320 → (ps : List ℕ) → swept ≡ some ps → Found (sweptOf tree lifts tail g r) (λ p. elem p ps)
   unfolding sweptOf
   swept-found few ps e =
-      let b = below-more (g .count) 320 ps few (sweep-below tree (g .buckets) (g .count) (codesOf lifts tail g) (r .k1) (r .k2) ps e) in
+      let h = sweep-below tree (g .buckets) (g .count) (codesOf lifts tail g) (r .k1) (r .k2) ps e in
+      let b = below-more (g .count) 320 ps few h in
       rw e (record { good = refl; places = members-inserted-all ps b })
 
   -- the tree of at most 320 loads, whose records have those loads: the places of the loads in the range
@@ -104,7 +105,8 @@ module _ (tree lifts tail : List ℕ) (g : Records) (r : Range) where
       → g .buckets ≡ length t → g .count ≡ length ls → ((p : ℕ) → p < length ls → codesOf lifts tail g p ≡ getD ls p 0)
       → Found (sweptOf tree lifts tail g r) (λ p. ltb p (length ls) && within (r .k1) (r .k2) (getD ls p 0))
   swept-built ls ok few t e et eb ec same =
-      let s : swept ≡ some (find (r .k1) (r .k2) t) = rw (et, eb, ec) (sweep-built ls ok few t e (codesOf lifts tail g) same (r .k1) (r .k2)) in
+      let b = sweep-built ls ok few t e (codesOf lifts tail g) same (r .k1) (r .k2) in
+      let s : swept ≡ some (find (r .k1) (r .k2) t) = rw (et, eb, ec) b in
       let f = swept-found (omega (arith, ec)) (find (r .k1) (r .k2) t) s in
       record {
         good = f .good;

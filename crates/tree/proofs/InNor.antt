@@ -1,5 +1,5 @@
--- An insertion into NOR whose first bytes are a built tree: the segment closes exactly where bucket 36 is needed; else the writes go
--- over bytes that are 255, only clear bits, and leave the bytes of the tree with the load. Assumes nothing.
+-- An insertion into NOR whose first bytes are a built tree: the segment closes exactly where bucket 36 is needed; else the writes
+-- go over bytes that are 255, only clear bits, and leave the bytes of the tree with the load. Assumes nothing.
 use Prim.Native.Nat.{ℕ, _+_, _≤_, _<_}
 use mathlib.Core.Path.{_≡_, sym, ap, _∙_}
 use mathlib.Core.Bool.{true, false}

@@ -10,7 +10,6 @@ use lib.Dec.{ltb, leb, eqb}
 use lib.ListN.{length}
 use borrow.Author.Tests.{eq-eqb, ne-eqb, ltb-true, leb-true}
 use Rattle.codec.specs.Number.{numberAt}
-use Rattle.tree.specs.Rules.{Entry}
 use Rattle.tree.specs.Bytes.{noMid}
 use Rattle.tree.specs.Reading as Reading
 use Rattle.tree.specs.Reading.{entryIn, entriesFrom, childAt, childGood, kidsOf, kidsGood, positionsGood, nodeIn, nodeGood}
@@ -33,7 +32,8 @@ unfolding entriesFrom
 entries-few s zero i = omega arith
 entries-few s (suc n) i = go (eqb (numberAt s (28 + 8 * i) 2) 65535) refl (entries-few s n (suc i))
   where
-    go : (q : Bool) → eqb (numberAt s (28 + 8 * i) 2) 65535 ≡ q → length (entriesFrom s n (suc i)) ≤ n → length (entriesFrom s (suc n) i) ≤ suc n
+    go : (q : Bool) → eqb (numberAt s (28 + 8 * i) 2) 65535 ≡ q → length (entriesFrom s n (suc i)) ≤ n
+        → length (entriesFrom s (suc n) i) ≤ suc n
     go true e h = rw e (omega arith)
     go false e h = rw e (omega arith)
 
@@ -55,7 +55,8 @@ entries-more s (suc n) i h e =
     rw (ne-eqb (numberAt s (28 + 8 * i) 2) 65535 e, add-one i, d)
 
 -- where there is an entry left, it is the one at i
-pub entries-some : (s : List ℕ) (n i : ℕ) → 0 < length (entriesFrom s n i) → entriesFrom s n i ≡ entryIn s i ∷ entriesFrom s (n - 1) (i + 1)
+pub entries-some : (s : List ℕ) (n i : ℕ) → 0 < length (entriesFrom s n i)
+    → entriesFrom s n i ≡ entryIn s i ∷ entriesFrom s (n - 1) (i + 1)
 entries-some s n i h =
     entries-more s n i (omega (arith, entries-few s n i)) (λ e.
     let z : length (entriesFrom s n i) ≡ 0 = ap length (entries-end s n i e) in omega arith)

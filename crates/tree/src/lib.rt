@@ -2,12 +2,8 @@
 // bytes, in NOR from 0 and in pages 20 to 28 of a slot. The rules and their laws are in specs/ and proofs/.
 use flash::Page;
 ghost use mathlib.Core.Path.{_≡_};
-ghost use mathlib.Core.Bool.{not};
 ghost use Prim.Native.Nat.{_+_, _*_, _≤_, _<_};
-ghost use lib.Dec.{eqb};
 ghost use lib.ListN.{length};
-ghost use Rattle.codec.specs.Number.{numberAt};
-ghost use Rattle.tree.specs.Bytes.{noMid};
 ghost use Rattle.tree.specs.Reading.{bucketAt, entryIn, entriesFrom, childAt, kidsOf, childGood, kidsGood, positionsGood};
 ghost use Rattle.tree.specs.Place.{placeOf};
 ghost use Rattle.tree.specs.Seen.{headOf, seenNode};

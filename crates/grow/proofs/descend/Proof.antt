@@ -1,5 +1,5 @@
 -- `grow::descend` meets its contract: the plan from here is the plan from the root.
-use mathlib.Core.Path.{_≡_, refl, ap, sym, _∙_}
+use mathlib.Core.Path.{_≡_, refl, ap, _∙_}
 use mathlib.Core.List.{List}
 use Prim.Native.Nat.{ℕ, _*_, _≤_, _<_}
 use native.Mathlib.Omega.{arith}
@@ -32,7 +32,8 @@ bytes c =
     ap length (c .bucket-of .ensures)
     ∙ length-part (d .args .tree .now) (128 * loop .loop .b) 128 (omega (arith, d .pre, loop .loop .inv .0))
 
-seen : (c : tie.After-node-in Inv-loop μ-loop) → let b = c .before .before .before .loop .b in let a = c .before .before .before .before .before .args in
+seen : (c : tie.After-node-in Inv-loop μ-loop) → let b = c .before .before .before .loop .b in
+    let a = c .before .before .before .before .before .args in
     c .node-in .result ≡ seenNode (bucketAt (a .tree .now) b) b (a .buckets) (a .count)
 seen c =
     let b = c .before .before .before .loop .b in
@@ -63,7 +64,8 @@ child-for-requires c κs = search needs
 plan-here-requires : tie.Need-plan-here-requires Inv-loop μ-loop
 plan-here-requires c κs =
     let node = c .before .before .before in
-    (good-range _ _ _ _ _ (seen node) (not-false _ (c .before .before .if1 .left)), node .before .before .before .before .before .pre .1)
+    let small = node .before .before .before .before .before .pre .1 in
+    (good-range _ _ _ _ _ (seen node) (not-false _ (c .before .before .if1 .left)), small)
 
 returns-2 : tie.Need-returns-2 Inv-loop μ-loop
 returns-2 c =

@@ -25,7 +25,8 @@ pick-requires-2 c κs = search needs
 returns-3 : tie.Need-returns-3
 returns-3 c m s =
     let split = c .before .before .before in
-    here-split _ m s _ _ _ _ (split .before .before .before .if1 .left) (split .before .before .if2 .left) (split .before .if3 .taken) _ _ _ _
+    let whole = split .before in
+    here-split _ m s _ _ _ _ (whole .before .before .if1 .left) (whole .before .if2 .left) (whole .if3 .taken) _ _ _ _
     (split .mid-of .ensures .0) (c .before .before .side-of .ensures) (c .before .pick .ensures) (c .pick2 .ensures)
 
 side-of-requires-2 : tie.Need-side-of-requires-2

@@ -1,6 +1,5 @@
 -- `grow::writes_of` meets its contract, case by case.
 use Rattle.tree.specs.Writes.{writesOf}
-use Rattle.grow.specs.Meaning.{Fitting}
 use Rattle.grow.proofs.Writing.{in-tree}
 use borrow.Author.Needs.{needs}
 use Rattle.grow.proofs.writes_of.Statement.{statement}

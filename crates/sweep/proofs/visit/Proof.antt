@@ -27,14 +27,18 @@ seen c =
     let a = c .before .before .before .before .before .before .before .before .before .args in
     c .node-in .ensures ∙ ap (λ (s : List ℕ). seenNode s (a .b) (a .g .buckets) (a .g .count)) (c .before .bucket-of .ensures)
 
-reached : (c : tie.Else1) → let a = c .before .before .before .before .before .before .args in (a .t .good && isDue (a .t .due) (a .b)) ≡ true
+reached : (c : tie.Else1) → let a = c .before .before .before .before .before .before .args in
+    (a .t .good && isDue (a .t .due) (a .b)) ≡ true
 reached c =
     let t = c .before .before .before .before .before .before .args .t in
     ap (λ (q : Bool). t .good && q) (sym (c .before .before .is-due .ensures)) ∙ not-false _ (c .if1 .left)
 
-opens : (c : tie.Else2) → let g = c .before .before .before .before .before .before .before .before .before .before .args .g in Opened (c .before .before .bucket-of .result .now) (g .count) (c .before .node-in .result)
+abbrev start : tie.Else2 → tie.Start
+start c = c .before .before .before .before .before .before .before .before .before .before
+
+opens : (c : tie.Else2) → Opened (c .before .before .bucket-of .result .now) (start c .args .g .count) (c .before .node-in .result)
 opens c =
-    let few = c .before .before .before .before .before .before .before .before .before .before .pre .0 .few in
+    let few = start c .pre .0 .few in
     opened _ _ _ _ _ few (c .before .node-in .ensures) (not-false _ (c .if2 .left))
 
 is-due-requires : tie.Need-is-due-requires
@@ -64,7 +68,7 @@ with-kids-requires c κs = opens c .kids
 entries-requires : tie.Need-entries-requires
 entries-requires c κs =
     let o = opens (c .before) in
-    let held = c .before .before .before .before .before .before .before .before .before .before .before .pre .0 in
+    let held = start (c .before) .pre .0 in
     ((omega (arith, bytes (c .before .before .before)), o .used), (o .positions, held .records))
 
 returns-3 : tie.Need-returns-3

@@ -26,7 +26,8 @@ returns : tie.Need-returns
 returns c =
     let start = c .before in
     let a = start .start-of .result in
-    part-from _ a (a + 128) 128 refl ∙ ap (λ (n : ℕ). part (start .before .before .args .tree .now) n 128) (start .start-of .ensures)
+    let tree = start .before .before .args .tree .now in
+    part-from tree a (a + 128) 128 refl ∙ ap (λ (n : ℕ). part tree n 128) (start .start-of .ensures)
 
 pub bucket-of-spec : {M : Type 1} → statement M
 bucket-of-spec =

@@ -34,7 +34,8 @@ loop-less c = search needs
 loop-again : tie.Need-loop-again Inv-loop μ-loop
 loop-again c =
     let p = c .before .entry-position .ensures in
-    rw p (passed-more _ _ _ _ (c .before .before .before .loop .inv) (c .before .before .loop-test .taken) (λ e. c .if1 .left (p ∙ e)))
+    let more = c .before .before .loop-test in
+    rw p (passed-more _ _ _ _ (c .before .before .before .loop .inv) (more .taken) (λ e. c .if1 .left (p ∙ e)))
 
 returns-2 : tie.Need-returns-2 Inv-loop μ-loop
 returns-2 c = let e : 13 - c .before .loop .i ≡ 0 = omega arith in passed-end _ _ _ _ (c .before .loop .inv) (no-places _ _ _ e)
