@@ -47,12 +47,16 @@ unfoldable pub pointersGood : ℕ → List Pointer → Bool
 pointersGood slots [] = true
 pointersGood slots (p ∷ ps) = pointerGood slots p && pointersGood slots ps
 
+-- the counts, and the span, of the header page h
+abbrev pub countsIn : List ℕ → Bool
+countsIn h = countsGood (numberAt h 4 2) (numberAt h 6 1) (numberAt h 7 1) (numberAt h 8 1)
+
+abbrev pub spanIn : List ℕ → Bool
+spanIn h = spanGood (numberAt h 16 8) (numberAt h 24 8) (numberAt h 32 4) (numberAt h 36 4)
+
 -- no damage in the header page h; its serial is below the one before
 unfoldable pub headerGood : List ℕ → ℕ → ℕ → Bool
-headerGood h slots before =
-    countsGood (numberAt h 4 2) (numberAt h 6 1) (numberAt h 7 1) (numberAt h 8 1)
-    && (spanGood (numberAt h 16 8) (numberAt h 24 8) (numberAt h 32 4) (numberAt h 36 4)
-    && (pointersGood slots (pointersAt h 40) && ltb (numberAt h 0 4) before))
+headerGood h slots before = countsIn h && (spanIn h && (pointersGood slots (pointersAt h 40) && ltb (numberAt h 0 4) before))
 
 -- the header as read
 unfoldable pub headerIn : List ℕ → ℕ → ℕ → Header

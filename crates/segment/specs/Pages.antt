@@ -1,8 +1,8 @@
 -- The pages that a close programs (document 01, "Segments"; "Chips and slots": pages of a slot). Assumes nothing.
-use mathlib.Core.Bool.{Bool, true, false, cond, not, _&&_, _||_}
+use mathlib.Core.Bool.{Bool, true, cond, not, _&&_, _||_}
 use mathlib.Core.List.{List, _++_}
 use Prim.Native.Nat.{ℕ, zero, suc, _+_, _-_, _*_, _/_, _%_, min}
-use lib.Dec.{eqb, leb, ltb}
+use lib.Dec.{eqb, ltb}
 use Rattle.codec.specs.Area.{part, repeated}
 use Rattle.flash.specs.Chip.{pageErased, programmed}
 use Rattle.bloom.specs.Pages.{sectionsFrom, bloomPage}
@@ -30,17 +30,23 @@ closePage nor c p =
     (cond (ltb p 31) (bloomPage (sectionsFrom nor (c .bloom) (c .count)) (p - 29))
     (headerPage c)))
 
+-- whether page p is erased if it is due
+abbrev pub pageReady : List ℕ → ℕ → ℕ → ℕ → ℕ → Bool
+pageReady nand slot count buckets p = not (pageDue count buckets p) || pageErased nand slot p
+
 -- whether those of the n pages from p on that are due are erased
 unfoldable pub pagesErased : ℕ → ℕ → List ℕ → ℕ → ℕ → ℕ → Bool
 pagesErased zero p nand slot count buckets = true
-pagesErased (suc n) p nand slot count buckets =
-    (not (pageDue count buckets p) || pageErased nand slot p) && pagesErased n (suc p) nand slot count buckets
+pagesErased (suc n) p nand slot count buckets = pageReady nand slot count buckets p && pagesErased n (suc p) nand slot count buckets
+
+-- the chip with page p programmed if it is due
+unfoldable pub pageProgrammed : List ℕ → List ℕ → ℕ → Closing → ℕ → List ℕ
+pageProgrammed nand nor slot c p = cond (pageDue (c .count) (c .buckets) p) (programmed nand slot p (closePage nor c p)) nand
 
 -- those of the n pages from p on that are due are programmed, "in rising page order"
 unfoldable pub pagesProgrammed : ℕ → ℕ → List ℕ → List ℕ → ℕ → Closing → List ℕ
 pagesProgrammed zero p nand nor slot c = nand
-pagesProgrammed (suc n) p nand nor slot c =
-    pagesProgrammed n (suc p) (cond (pageDue (c .count) (c .buckets) p) (programmed nand slot p (closePage nor c p)) nand) nor slot c
+pagesProgrammed (suc n) p nand nor slot c = pagesProgrammed n (suc p) (pageProgrammed nand nor slot c p) nor slot c
 
 -- the pages of a slot that a close programs are erased, and are programmed
 abbrev pub closeErased : List ℕ → ℕ → ℕ → ℕ → Bool

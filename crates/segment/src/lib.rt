@@ -1,6 +1,36 @@
 // A closed segment (document 01, "Segments", "Bloom and skip list"): its header page, and the pages that a close programs.
+use flash::PAGE_BYTES;
+use flash::Page;
 use skiplist::Pointer;
+ghost use mathlib.Core.Path.{_≡_};
+ghost use mathlib.Core.Bool.{true};
+ghost use Prim.Native.Nat.{_+_, _*_, _≤_, _<_, min};
+ghost use lib.ListN.{length};
+ghost use Rattle.codec.specs.Area.{splice, repeated};
+ghost use Rattle.segment.specs.Header.{countBytes, spanBytes, headerPage, countsGood, spanGood, pointerGood, pointersGood};
+ghost use Rattle.segment.specs.Header.{countsIn, spanIn, headerIn};
+ghost use Rattle.segment.specs.Pages.{pageDue, treePage, closePage, pageReady, pageProgrammed, closeErased, closeProgrammed};
 
+// A segment has up to 320 lifts and up to 36 buckets.
+pub const LIFTS_MOST: u16 = 320;
+
+pub const BUCKETS_MOST: u8 = 36;
+
+// Pages of a slot: 0–19 lifts, 20–28 tree, 29–30 Bloom, 31 header.
+pub const TREE_PAGE: usize = 20;
+
+pub const BLOOM_PAGE: usize = 29;
+
+pub const HEADER_PAGE: usize = 31;
+
+const SLOT_PAGES: usize = 32;
+
+const BUCKET_BYTES: usize = 128;
+
+// Where the pointers stand in a header.
+const POINTERS_AT: usize = 40;
+
+// A header as read; `good` where it has no damage.
 pub struct Header {
     pub good: bool,
     pub serial: u32,
@@ -12,6 +42,7 @@ pub struct Header {
     pub next: [Pointer; 4],
 }
 
+// All that a close needs of the state.
 pub struct Closing {
     pub serial: u32,
     pub count: u16,
@@ -23,4 +54,246 @@ pub struct Closing {
     pub heads: [Pointer; 4],
     pub page: [u8; 512],
     pub bloom: [u8; 128],
+}
+
+// A segment without lifts has no sections, so it is told apart first.
+fn counts_good(count: u16, buckets: u8, sections: u8, fragment: u8) -> bool
+    ensures { λ r. ⌜ r ≡ countsGood count buckets sections fragment ⌝ }
+{
+    if count < 1 {
+        return false;
+    }
+    let s = bloom::sections_of(count);
+    let l = bloom::fragment_of(s);
+    (count <= LIFTS_MOST)
+        & (((1 <= buckets) & (buckets <= BUCKETS_MOST))
+            & ((sections as usize == s) & (fragment as usize == l)))
+}
+
+fn span_good(start: u64, end: u64, low: u32, high: u32) -> bool
+    ensures { λ r. ⌜ r ≡ spanGood start end low high ⌝ }
+{
+    let times = lift::time_ok(start) & (lift::time_ok(end) & (start <= end));
+    let loads = lift::code_ok(low) & (lift::code_ok(high) & (low <= high));
+    times & loads
+}
+
+fn pointer_good(p: Pointer, slots: u64) -> bool
+    ensures { λ r. ⌜ r ≡ pointerGood slots p ⌝ }
+{
+    let time = p.time;
+    lift::time_ok(time) & p.in_slots(slots)
+}
+
+fn pointers_good(p: [Pointer; 4], slots: u64) -> bool
+    ensures { λ r. ⌜ r ≡ pointersGood slots p ⌝ }
+{
+    let a = pointer_good(p[0], slots);
+    let b = pointer_good(p[1], slots);
+    let c = pointer_good(p[2], slots);
+    let d = pointer_good(p[3], slots);
+    a & (b & (c & d))
+}
+
+fn counts_in(h: &[u8]) -> bool
+    requires { ⌜ 16 ≤ length (now h) ⌝ }
+    ensures { λ r. ⌜ r ≡ countsIn (now (h .entry)) ⌝ }
+{
+    let count = codec::get_u16(h, 4);
+    let buckets = codec::get_u8(h, 6);
+    let sections = codec::get_u8(h, 7);
+    let fragment = codec::get_u8(h, 8);
+    counts_good(count, buckets, sections, fragment)
+}
+
+fn span_in(h: &[u8]) -> bool
+    requires { ⌜ 40 ≤ length (now h) ⌝ }
+    ensures { λ r. ⌜ r ≡ spanIn (now (h .entry)) ⌝ }
+{
+    let start = codec::get_u64(h, 16);
+    let end = codec::get_u64(h, 24);
+    let low = codec::get_u32(h, 32);
+    let high = codec::get_u32(h, 36);
+    span_good(start, end, low, high)
+}
+
+// The header page h; its serial is to be below `before`.
+pub fn header_in(h: &[u8], slots: u64, before: u32) -> Header
+    requires { ⌜ length (now h) ≡ 512 ⌝ }
+    ensures { λ r. ⌜ r ≡ headerIn (now (h .entry)) slots before ⌝ }
+{
+    let serial = codec::get_u32(h, 0);
+    let next = skiplist::pointers_at(h, POINTERS_AT);
+    let counts = counts_in(h);
+    let span = span_in(h);
+    let pointers = pointers_good(next, slots);
+    let good = counts & (span & (pointers & (serial < before)));
+    Header {
+        good: good,
+        serial: serial,
+        count: codec::get_u16(h, 4),
+        buckets: codec::get_u8(h, 6),
+        start: codec::get_u64(h, 16),
+        low: codec::get_u32(h, 32),
+        high: codec::get_u32(h, 36),
+        next: next,
+    }
+}
+
+fn zeros() -> [u8; 512]
+    ensures { λ r. ⌜ r ≡ repeated 512 0 ⌝ }
+{
+    [0u8; 512]
+}
+
+fn ones() -> [u8; 512]
+    ensures { λ r. ⌜ r ≡ repeated 512 255 ⌝ }
+{
+    [255u8; 512]
+}
+
+fn put_counts(h: &mut [u8], serial: u32, count: u16, buckets: u8)
+    requires { ⌜ (16 ≤ length (now h)) × (1 ≤ count) × (count ≤ 320) ⌝ }
+    ensures { λ _. ⌜ now (h .exit) ≡ splice (now (h .entry)) 0 (countBytes serial count buckets) ⌝ }
+{
+    let sections = bloom::sections_of(count);
+    let fragment = bloom::fragment_of(sections);
+    let level = skiplist::level_of(serial);
+    codec::put_u32(h, 0, serial);
+    codec::put_u16(h, 4, count);
+    codec::put_u8(h, 6, buckets);
+    codec::put_u8(h, 7, sections as u8);
+    codec::put_u8(h, 8, fragment as u8);
+    codec::put_u8(h, 9, level as u8);
+    codec::fill(h, 10, 6, 0);
+}
+
+fn put_span(h: &mut [u8], start: u64, end: u64, low: u32, high: u32)
+    requires { ⌜ 40 ≤ length (now h) ⌝ }
+    ensures { λ _. ⌜ now (h .exit) ≡ splice (now (h .entry)) 16 (spanBytes start end low high) ⌝ }
+{
+    codec::put_u64(h, 16, start);
+    codec::put_u64(h, 24, end);
+    codec::put_u32(h, 32, low);
+    codec::put_u32(h, 36, high);
+}
+
+// Page 31.
+pub fn header_page(c: Closing) -> [u8; 512]
+    requires { ⌜ (1 ≤ c .count) × (c .count ≤ 320) ⌝ }
+    ensures { λ r. ⌜ r ≡ headerPage c ⌝ }
+{
+    let heads = c.heads;
+    let serial = c.serial;
+    let level = skiplist::level_of(serial);
+    let node = skiplist::node_of(heads, level);
+    let mut h = zeros();
+    put_counts(&mut h, serial, c.count, c.buckets);
+    put_span(&mut h, c.start, c.end, c.low, c.high);
+    skiplist::put_pointers(&mut h, POINTERS_AT, node);
+    h
+}
+
+fn smaller(a: usize, b: usize) -> usize
+    ensures { λ r. ⌜ r ≡ min a b ⌝ }
+{
+    if a <= b { a } else { b }
+}
+
+// Page 20 + i: up to four buckets, the rest 255.
+fn tree_page(nor: &[u8], buckets: u8, i: usize) -> [u8; 512]
+    requires { ⌜ (i * 4 < buckets) × (buckets * 128 ≤ length (now nor)) ⌝ }
+    ensures { λ r. ⌜ r ≡ treePage (now (nor .entry)) buckets i ⌝ }
+{
+    let mut d = ones();
+    let a = i * PAGE_BYTES;
+    let n = smaller(PAGE_BYTES, (buckets as usize) * BUCKET_BYTES - a);
+    let e = a + n;
+    codec::copy(&mut d, 0, &nor[a..e]);
+    d
+}
+
+// Whether a close programs page p: the part-filled lift page, the tree pages that hold a bucket, page 29, page 30 for five
+// sections (more than 256 lifts), page 31.
+pub fn is_due(count: u16, buckets: u8, p: usize) -> bool
+    ensures { λ r. ⌜ r ≡ pageDue count buckets p ⌝ }
+{
+    if p < TREE_PAGE {
+        let n = count as usize;
+        return !(n % 16 == 0) & (p == n / 16);
+    }
+    if p < BLOOM_PAGE {
+        return (p - TREE_PAGE) * 4 < buckets as usize;
+    }
+    !(p == 30) | (256 < count)
+}
+
+// What a close programs into page p.
+pub fn page_image(nor: &[u8], c: Closing, p: usize) -> [u8; 512]
+    requires { ⌜ (length (now nor) ≡ 6144) × (p < 32) × (1 ≤ c .count) × (c .count ≤ 320) × (c .buckets ≤ 36)
+        × (pageDue (c .count) (c .buckets) p ≡ true) ⌝ }
+    ensures { λ r. ⌜ r ≡ closePage (now (nor .entry)) c p ⌝ }
+{
+    if p < TREE_PAGE {
+        return c.page;
+    }
+    if p < BLOOM_PAGE {
+        return tree_page(nor, c.buckets, p - TREE_PAGE);
+    }
+    if p < HEADER_PAGE {
+        let buffer = c.bloom;
+        return bloom::bloom_page(nor, buffer, c.count, p - BLOOM_PAGE);
+    }
+    header_page(c)
+}
+
+// Page p need not be programmed, or is erased.
+fn is_ready(nand: &[u8], slot: usize, count: u16, buckets: u8, p: usize) -> bool
+    requires { ⌜ (slot * 16384 + 16384 ≤ length (now nand)) × (p < 32) ⌝ }
+    ensures { λ r. ⌜ r ≡ pageReady (now (nand .entry)) slot count buckets p ⌝ }
+{
+    if is_due(count, buckets, p) {
+        return flash::is_erased(nand, slot, Page(p));
+    }
+    true
+}
+
+// Whether all pages that a close programs are erased.
+pub fn pages_erased(nand: &[u8], slot: usize, count: u16, buckets: u8) -> bool
+    requires { ⌜ slot * 16384 + 16384 ≤ length (now nand) ⌝ }
+    ensures { λ r. ⌜ r ≡ closeErased (now (nand .entry)) slot count buckets ⌝ }
+{
+    let mut p: usize = 0;
+    while p < SLOT_PAGES {
+        if !is_ready(nand, slot, count, buckets, p) {
+            return false;
+        }
+        p += 1;
+    }
+    true
+}
+
+// Page p is programmed if it is due.
+fn program_page(nand: &mut [u8], nor: &[u8], slot: usize, c: Closing, p: usize)
+    requires { ⌜ (slot * 16384 + 16384 ≤ length (now nand)) × (length (now nor) ≡ 6144) × (p < 32)
+        × (1 ≤ c .count) × (c .count ≤ 320) × (c .buckets ≤ 36) ⌝ }
+    ensures { λ _. ⌜ now (nand .exit) ≡ pageProgrammed (now (nand .entry)) (now (nor .entry)) slot c p ⌝ }
+{
+    if is_due(c.count, c.buckets, p) {
+        let d = page_image(nor, c, p);
+        flash::program(nand, slot, Page(p), d);
+    }
+}
+
+// The close's programs, in rising page order.
+pub fn program_pages(nand: &mut [u8], nor: &[u8], slot: usize, c: Closing)
+    requires { ⌜ (slot * 16384 + 16384 ≤ length (now nand)) × (length (now nor) ≡ 6144)
+        × (1 ≤ c .count) × (c .count ≤ 320) × (c .buckets ≤ 36) ⌝ }
+    ensures { λ _. ⌜ now (nand .exit) ≡ closeProgrammed (now (nand .entry)) (now (nor .entry)) slot c ⌝ }
+{
+    let mut p: usize = 0;
+    while p < SLOT_PAGES {
+        program_page(nand, nor, slot, c, p);
+        p += 1;
+    }
 }

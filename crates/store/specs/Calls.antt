@@ -2,18 +2,20 @@
 -- Assumes nothing.
 use mathlib.Core.Bool.{Bool, true, false, cond, not, _&&_, _||_}
 use mathlib.Core.List.{List, map}
-use Prim.Native.Nat.{ℕ, _+_, _-_, _*_, _/_, _%_}
+use Prim.Native.Nat.{ℕ, _-_, _/_}
 use lib.Dec.{eqb, leb, ltb}
 use lib.IntN.{ℤ, pos}
 use lib.ListN.{length, replicate}
 use Rattle.codec.specs.Area.{part, allOnes}
 use Rattle.flash.specs.Chip.{slotOf, pageErased, chipErased, erasedPage, norTree}
-use Rattle.lift.specs.Limits.{timeOk, loadOk, stored}
+use Rattle.lift.specs.Limits.{stored}
 use Rattle.bloom.specs.Bloom.{emptySection}
 use Rattle.skiplist.specs.Skip.{none}
 use Rattle.segment.specs.Pages.{closeErased}
-use Rattle.tree.specs.Plan.{Plan, damaged, noRoom, newRoot, intoBucket, newChild, splitBucket, planOn}
+use Rattle.tree.specs.Plan.{Plan, planOn, isDamaged, isNoRoom}
 use Rattle.tree.specs.Writes.{writesOf, allClear}
+use Rattle.bounds.specs.Grounds.{ground, nandBad, norBad, formatGround, liftGround}
+use Rattle.bounds.specs.Lifts.{noLoads}
 use Rattle.store.specs.declared.State.{State}
 use Rattle.store.specs.Bounds.{withinBounds}
 use Rattle.store.specs.World.{World, closeWorld, dropWorld, putWorld, nextOldest, closedRemains, fillsPage, fillsSection, sectionStart}
@@ -23,21 +25,9 @@ pub record Outcome : Type 0 where
   pub number : ℕ
   pub world : World
 
--- number n if the ground holds, else what the later grounds give
-abbrev pub ground : ℕ → Bool → ℕ → ℕ
-ground n holds rest = cond holds n rest
-
 -- "A refusal returns its number alone and alters nothing."
 abbrev pub outcome : ℕ → World → World → Outcome
 outcome number before after = record { number = number; world = cond (eqb number 0) after before }
-
--- "1. S is outside 2 to 4,096, or NAND length is not S slots."
-abbrev pub nandBad : ℕ → ℕ → Bool
-nandBad nandLength slots = ltb slots 2 || (ltb 4096 slots || not (eqb nandLength (slots * 16384)))
-
--- "2. NOR length is not 6,144."
-abbrev pub norBad : ℕ → Bool
-norBad norLength = not (eqb norLength 6144)
 
 -- ---- format
 
@@ -51,16 +41,13 @@ formatted = record {
   next = 0;
   live = 0;
   heads = replicate 4 none;
-  loads = replicate 13 (pos 0);
+  loads = noLoads;
   page = erasedPage;
   bloom = emptySection;
   start = 0;
   low = pos 0;
   high = pos 0;
 }
-
-unfoldable pub formatGround : ℕ → ℕ → ℕ → ℕ
-formatGround nandLength norLength slots = ground 1 (nandBad nandLength slots) (ground 2 (norBad norLength) 0)
 
 -- "Format erases both chips"; a refused one hands back the formatted state and leaves the chips
 unfoldable pub formatOutcome : List ℕ → List ℕ → ℕ → Outcome
@@ -109,27 +96,9 @@ abbrev pub planOf : World → ℤ → Plan
 planOf w load =
     planOn (norTree (w .nor)) (w .state .buckets) (w .state .count) (map stored (w .state .loads)) (stored load)
 
--- damage on the entry's path
-abbrev pub isDamaged : Plan → Bool
-isDamaged damaged = true
-isDamaged noRoom = false
-isDamaged newRoot = false
-isDamaged (intoBucket b i) = false
-isDamaged (newChild b side x y) = false
-isDamaged (splitBucket b m side x y) = false
-
--- the open segment has no room
-abbrev pub isFull : Plan → Bool
-isFull damaged = false
-isFull noRoom = true
-isFull newRoot = false
-isFull (intoBucket b i) = false
-isFull (newChild b side x y) = false
-isFull (splitBucket b m side x y) = false
-
 -- "An append that finds 320 lifts, or that needs bucket 36, first closes and then goes into the next serial."
 unfoldable pub roomWorld : World → ℕ → Plan → World
-roomWorld w slots p = cond (isFull p) (closeWorld w slots) w
+roomWorld w slots p = cond (isNoRoom p) (closeWorld w slots) w
 
 -- "The first append to n erases that slot if oldest ≤ n − S"
 unfoldable pub dropsFirst : World → ℕ → Bool
@@ -149,19 +118,16 @@ appendDamage r slots load p =
 -- ground 11: the pages of a close that is due, and the page that the lift fills
 unfoldable pub appendUnerased : World → World → ℕ → Plan → Bool
 appendUnerased w r slots p =
-    (isFull p && not (closeErased (w .nand) (slotOf (w .state .current) slots) (w .state .count) (w .state .buckets)))
+    (isNoRoom p && not (closeErased (w .nand) (slotOf (w .state .current) slots) (w .state .count) (w .state .buckets)))
     || (fillsPage (r .state) && not (pageErased (r .nand) (slotOf (r .state .current) slots) (r .state .count / 16)))
 
 unfoldable pub appendGround : World → ℕ → ℕ → ℤ → ℕ
 appendGround w slots time load =
     stateGround w slots
-    (ground 4 (not (timeOk time))
-    (ground 5 (not (loadOk load))
-    (ground 7 (ltb time (w .state .next))
-    (ground 8 (leb 999999998 (w .state .current))
+    (liftGround time load (w .state .next) (w .state .current)
     (ground 10 (appendDamage (roomWorld w slots (planOf w load)) slots load (planOf w load))
     (ground 11 (appendUnerased w (roomWorld w slots (planOf w load)) slots (planOf w load))
-    0))))))
+    0)))
 
 -- a close if it is due, a drop if it is due, then the lift
 unfoldable pub appendWorld : World → ℕ → ℕ → ℤ → List ℕ → World

@@ -12,9 +12,10 @@ use Rattle.walk.specs.declared.Log.{Log}
 use Rattle.walk.specs.declared.Query.{Query}
 use Rattle.search.specs.Found.{foundRows}
 use Rattle.search.specs.Answers.{SearchAnswer, searchAnswer, TallyAnswer, tallyAnswer}
+use Rattle.bounds.specs.Grounds.{queryGround}
 use Rattle.store.specs.declared.State.{State}
 use Rattle.store.specs.World.{World}
-use Rattle.store.specs.Calls.{ground, stateGround}
+use Rattle.store.specs.Calls.{stateGround}
 
 -- what a search needs of the state
 abbrev pub logOf : State → ℕ → Log
@@ -35,11 +36,7 @@ queryOf t1 t2 k1 k2 = record { t1 = t1; t2 = t2; k1 = stored k1; k2 = stored k2 
 -- both times, then both loads, then both ranges
 unfoldable pub searchGround : World → ℕ → ℕ → ℕ → ℤ → ℤ → ℕ
 searchGround w slots t1 t2 k1 k2 =
-    stateGround w slots
-    (ground 4 (not (timeOk t1 && timeOk t2))
-    (ground 5 (not (loadOk k1 && loadOk k2))
-    (ground 6 (ltb t2 t1 || ltZ k2 k1)
-    0)))
+    stateGround w slots (queryGround t1 t2 k1 k2)
 
 -- grounds 10 and 12, then the rows
 unfoldable pub searchOutcome : World → ℕ → ℕ → ℕ → ℤ → ℤ → List ℕ → SearchAnswer

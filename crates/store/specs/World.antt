@@ -19,6 +19,7 @@ use Rattle.segment.specs.Header.{headerIn}
 use Rattle.segment.specs.Pages.{closeProgrammed}
 use Rattle.tree.specs.Plan.{Plan}
 use Rattle.tree.specs.Writes.{writesOf, allWritten, bucketsAfter}
+use Rattle.bounds.specs.Lifts.{noLoads, pushed, lowWith, highWith}
 use Rattle.store.specs.declared.State.{State}
 
 -- both chips and the state
@@ -55,7 +56,7 @@ movedOn s slot = record {
   next = s .next;
   live = s .live;
   heads = headsAfter (s .heads) (levelOf (s .current)) (pointer slot (s .start));
-  loads = replicate 13 (pos 0);
+  loads = noLoads;
   page = erasedPage;
   bloom = emptySection;
   start = 0;
@@ -112,10 +113,6 @@ dropWorld w slots = record {
 
 -- ---- put
 
--- the last 13 loads with a new one, "oldest first": at its place until there are 13, then behind the others
-unfoldable pub pushed : List ℤ → ℕ → ℤ → List ℤ
-pushed loads count load = cond (ltb count 13) (set loads count load) (drop 1 loads ++ (load ∷ []))
-
 -- the page buffer with the lift's record
 abbrev pub pageWith : State → ℕ → ℤ → List ℕ → List ℕ
 pageWith s time load note = splice (s .page) (s .count % 16 * 32) (recordBytes time (stored load) note)
@@ -149,8 +146,8 @@ stateWith s time load note p = record {
   page = cond (fillsPage s) erasedPage (pageWith s time load note);
   bloom = cond (fillsSection s) emptySection (bloomWith s load);
   start = cond (eqb (s .count) 0) time (s .start);
-  low = cond (eqb (s .count) 0) load (cond (ltZ load (s .low)) load (s .low));
-  high = cond (eqb (s .count) 0) load (cond (ltZ (s .high) load) load (s .high));
+  low = lowWith (s .count) (s .low) load;
+  high = highWith (s .count) (s .high) load;
 }
 
 -- The lift goes last into the open segment, its entry where the plan says. "A page goes to NAND when its sixteenth lift arrives, and a

@@ -1,0 +1,38 @@
+-- Ground 3: the bounds of the state's numbers (document 01, "State", last paragraph). Assumes nothing.
+use mathlib.Core.Bool.{Bool, true, false, not, _&&_, _||_}
+use mathlib.Core.List.{List, [], _∷_}
+use Prim.Native.Nat.{ℕ, _-_}
+use lib.Dec.{eqb, leb, ltb}
+use lib.IntN.{ℤ}
+use lib.Signed.{leZ}
+use Rattle.lift.specs.Limits.{loadOk}
+
+-- "exactly when"
+abbrev pub exactly : Bool → Bool → Bool
+exactly a b = (a && b) || (not a && not b)
+
+-- "serials 1 to 999,999,999; oldest ≤ open and open − oldest ≤ S, below S when count is above 0"
+unfoldable pub serialsOk : ℕ → ℕ → ℕ → ℕ → Bool
+serialsOk oldest current count slots =
+    (leb 1 oldest && (leb oldest current && leb current 999999999))
+    && (leb (current - oldest) slots && (eqb count 0 || ltb (current - oldest) slots))
+
+-- "count 0–320; buckets 0–36, 0 exactly when count is 0; count 0 if open is 999,999,999"
+unfoldable pub countsOk : ℕ → ℕ → ℕ → Bool
+countsOk current count buckets =
+    (leb count 320 && leb buckets 36) && (exactly (eqb buckets 0) (eqb count 0) && (not (eqb current 999999999) || eqb count 0))
+
+-- "next, oldest live and start time at most 1,000,000,000,000,000; next 0 exactly when open is 1 and count 0;
+-- with count above 0, start below next"
+unfoldable pub timesOk : ℕ → ℕ → ℕ → ℕ → ℕ → Bool
+timesOk current count next live start =
+    (leb next 1000000000000000 && (leb live 1000000000000000 && leb start 1000000000000000))
+    && (exactly (eqb next 0) (eqb current 1 && eqb count 0) && (eqb count 0 || ltb start next))
+
+-- with count above 0, "low not above high; loads within their limits"
+unfoldable pub spanOk : ℕ → ℤ → ℤ → Bool
+spanOk count low high = (loadOk low && loadOk high) && (eqb count 0 || leZ low high)
+
+unfoldable pub loadsOk : List ℤ → Bool
+loadsOk [] = true
+loadsOk (l ∷ ls) = loadOk l && loadsOk ls

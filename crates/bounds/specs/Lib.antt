@@ -1,0 +1,3 @@
+pub mod Bounds
+pub mod Grounds
+pub mod Lifts
