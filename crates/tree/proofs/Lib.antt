@@ -17,3 +17,5 @@ pub mod Written
 pub mod Inserted
 pub mod Clears
 pub mod ByteExamples
+pub mod Looked
+pub mod InNor
