@@ -89,7 +89,7 @@ module _ (h : History) (g : Good h) (l : Lift) (gl : GoodLift l) where
       go false e = sound-is ls (g .segment) l gl (omega (arith, g .segment .few, eqb-false (length ls) 320 e))
 
 -- a segment that closes has a lift
-some-lift : (ls : List Lift) (load : ℤ) → isFull ls load ≡ true → 0 < length ls
+pub some-lift : (ls : List Lift) (load : ℤ) → isFull ls load ≡ true → 0 < length ls
 unfolding isFull
 some-lift [] load e =
     let z : _≡_ {A = Bool} true false = sym e ∙ first-fits (stored load) in
@@ -336,10 +336,10 @@ module _ (h : History) (g : Good h) (l : Lift) (gl : GoodLift l) (later : h .log
   sh : Shed r s
   sh = shed r (ry .good)
 
-  entry : Enters (s .log .current) l plan
+  pub entry : Enters (s .log .current) l plan
   entry = subst (λ (c : List Lift). Enters c l plan) (sym (sh .current)) (ry .enters)
 
-  takes : Takes s l
+  pub takes : Takes s l
   takes =
       let c = ap length (sh .current) in
       record {

@@ -73,7 +73,7 @@ empty : (ls : List Lift) → (0 < length ls → ⊥) → ls ≡ []
 empty [] f = refl
 empty (l ∷ ls) f = absurd (f (omega arith))
 
-first-skips : (slots n : ℕ) (ms : List Lift) (rest : List (List Lift)) (current : List Lift) (heads : List Pointer) (s p : ℕ)
+pub first-skips : (slots n : ℕ) (ms : List Lift) (rest : List (List Lift)) (current : List Lift) (heads : List Pointer) (s p : ℕ)
     → (slotOf n slots ≡ s → ⊥) → pageFrom slots n (ms ∷ rest) current heads s p
     ≡ pageFrom slots (suc n) rest current (headsAfter heads (levelOf n) (pointer (slotOf n slots) (S.startTime ms))) s p
 unfolding pageFrom
@@ -126,7 +126,7 @@ module _ (slots oldest : ℕ) (ms : List Lift) (rest : List (List Lift)) (curren
   slot-there = slot-below slots oldest (omega (arith, g .least))
 
   -- the heads of the oldest serial left
-  heads-left : oldestHeads (dropHistory h) ≡ headsAfter (oldestHeads h) (levelOf oldest) (pointer (slotOf oldest slots) (S.startTime ms))
+  pub heads-left : oldestHeads (dropHistory h) ≡ headsAfter (oldestHeads h) (levelOf oldest) (pointer (slotOf oldest slots) (S.startTime ms))
   unfolding dropLog
   heads-left =
       let e : 1 + length gone ≡ oldest = omega (arith, g .serial) in

@@ -128,7 +128,7 @@ module _ (h : History) (l : Lift) (g : Good h) (t : Takes h l) where
 
   -- ---- NAND
 
-  open-below : (p : ℕ) → p < length ls / 16 → S.openPage ls p ≡ S.openPage more p
+  pub open-below : (p : ℕ) → p < length ls / 16 → S.openPage ls p ≡ S.openPage more p
   unfolding S.openPage
   open-below p k =
       let n = O.length-snoc ls l in
@@ -140,7 +140,7 @@ module _ (h : History) (l : Lift) (g : Good h) (t : Takes h l) where
       let n = O.length-snoc ls l in
       rw (le-ltb p (length ls / 16) (omega arith), le-ltb p (length more / 16) k)
 
-  same-page : (s p : ℕ) → (slot ≡ s → S.openPage ls p ≡ S.openPage more p) → pageImage h s p ≡ pageImage (putHistory h l) s p
+  pub same-page : (s p : ℕ) → (slot ≡ s → S.openPage ls p ≡ S.openPage more p) → pageImage h s p ≡ pageImage (putHistory h l) s p
   unfolding putLog
   same-page s p f = page-current slots (h .log .oldest) (h .log .closed) ls more (oldestHeads h) s p f
 
@@ -225,7 +225,7 @@ module _ (h : History) (l : Lift) (g : Good h) (t : Takes h l) where
   codes-snoc : codes more ≡ cs ++ (code ∷ [])
   codes-snoc = O.map-snoc (λ l. stored (l .load)) ls l
 
-  nor-is : (entered : List ℕ) → entered ≡ S.treeArea more ++ sections
+  pub nor-is : (entered : List ℕ) → entered ≡ S.treeArea more ++ sections
       → cond (eqb (length ls % 64) 63) (splice entered (4608 + length ls / 64 * 128) (noted (S.bloomBuffer cs) code)) entered ≡ S.norOf more
   unfolding S.norOf
   nor-is entered w = go (eqb (length ls % 64) 63) refl

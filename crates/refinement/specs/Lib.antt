@@ -1,3 +1,4 @@
 pub mod Segments
 pub mod Image
 pub mod Run
+pub mod Rules
