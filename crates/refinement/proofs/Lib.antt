@@ -18,3 +18,4 @@ pub mod Begun
 pub mod Steps
 pub mod PagesKept
 pub mod NorClears
+pub mod AllCalls

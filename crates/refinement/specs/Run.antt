@@ -1,11 +1,14 @@
 -- Lists of calls on the store, each given the state and chips that the last one left, and the same calls as the paper log gets them.
 -- Assumes nothing.
+use mathlib.Core.Path.{_≡_}
 use mathlib.Core.Bool.{Bool, cond}
 use mathlib.Core.List.{List, [], _∷_}
-use Prim.Native.Nat.{ℕ, _/_}
+use Prim.Native.Nat.{ℕ, _/_, _<_}
+use lib.Dec.{eqb}
 use lib.IntN.{ℤ}
-use lib.ListN.{length}
-use Rattle.search.specs.Answers.{SearchAnswer}
+use lib.ListN.{length, getD}
+use Rattle.codec.specs.Area.{splice}
+use Rattle.search.specs.Answers.{SearchAnswer, rowBytes}
 use Rattle.store.specs.World.{World}
 use Rattle.store.specs.Calls.{Outcome, appendOutcome, closeOutcome, dropOutcome}
 use Rattle.store.specs.Queries.{searchOutcome}
@@ -58,3 +61,33 @@ replies w (r ∷ rs) = reply w r ∷ replies (worldAfter w r) rs
 unfoldable pub runAfter : World → List Request → World
 runAfter w [] = w
 runAfter w (r ∷ rs) = runAfter (worldAfter w r) rs
+
+-- ---- what the paper log's answer makes of a request
+
+-- the number; of a search the count, and the area with the rows where it is accepted
+unfoldable pub expected : Paper.Answer → Request → Reply
+expected a (append slots time load note) = plain (a .number)
+expected a (close slots) = plain (a .number)
+expected a (drop slots) = plain (a .number)
+expected a (search slots t1 t2 k1 k2 area) = record {
+  number = a .number;
+  count = length (a .rows);
+  area = cond (eqb (a .number) 0) (splice area 0 (rowBytes (a .rows))) area;
+}
+
+-- of a list of requests, beside the paper log's answers
+unfoldable pub expectedAll : List Paper.Answer → List Request → List Reply
+expectedAll [] rs = []
+expectedAll (a ∷ rest) [] = []
+expectedAll (a ∷ rest) (r ∷ rs) = expected a r ∷ expectedAll rest rs
+
+-- a note is 20 bytes: what its type can hold
+abbrev pub Typed : Request → Type 0
+Typed (append slots time load note) = (length note ≡ 20) × ((i : ℕ) → getD note i 0 < 256)
+Typed (close slots) = Unit {0}
+Typed (drop slots) = Unit {0}
+Typed (search slots t1 t2 k1 k2 area) = Unit {0}
+
+abbrev pub AllTyped : List Request → Type 0
+AllTyped [] = Unit {0}
+AllTyped (r ∷ rs) = Typed r × AllTyped rs
