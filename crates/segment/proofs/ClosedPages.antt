@@ -25,6 +25,7 @@ pub record Shaped (nor : List ℕ) (c : Closing) : Type 0 where
   pub few : c .buckets ≤ 36
   pub heads-four : length (c .heads) ≡ 4
   pub page-size : length (c .page) ≡ 512
+  pub bloom-size : length (c .bloom) ≡ 128
 
 -- ---- lengths
 
@@ -63,10 +64,10 @@ module _ (nor : List ℕ) (c : Closing) (shaped : Shaped nor c) (slots slot : �
         go true = yes'
         go false = no'
 
-    length-one : length (pageProgrammed nand nor slot c k) ≡ length nand
+    pub length-one : length (pageProgrammed nand nor slot c k) ≡ length nand
     length-one = by-due (λ t. length t ≡ length nand) (length-programmed nand slots size slot there k (closePage nor c k) h (length-image nor c k shaped)) refl
 
-    one-elsewhere : (slot' p : ℕ) → slot' < slots → p < 32 → (slot' * 32 + p ≡ slot * 32 + k → ⊥)
+    pub one-elsewhere : (slot' p : ℕ) → slot' < slots → p < 32 → (slot' * 32 + p ≡ slot * 32 + k → ⊥)
         → pageOf (pageProgrammed nand nor slot c k) slot' p ≡ pageOf nand slot' p
     one-elsewhere slot' p l m other =
         by-due (λ t. pageOf t slot' p ≡ pageOf nand slot' p)

@@ -3,3 +3,10 @@ pub mod Tests
 pub mod HeaderBytes
 pub mod Turns
 pub mod ClosedPages
+pub mod HeaderRead
+pub mod HeaderSound
+pub mod TreeArea
+pub mod ReadBack
+pub mod LiftsRead
+pub mod ImageBytes
+pub mod Clearing

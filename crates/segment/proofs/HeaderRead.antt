@@ -1,0 +1,171 @@
+-- A header page read back gives what was written, and a sound closing's header has no damage: each field is read where it starts. Assumes nothing.
+use mathlib.Core.Path.{_≡_, refl, sym, ap, _∙_}
+use mathlib.Core.Bool.{Bool, true, false, _&&_, _||_}
+use mathlib.Core.List.{List, [], _∷_, _++_, append-assoc}
+use Prim.Native.Nat.{ℕ, zero, suc, _+_, _-_, _*_, _^_, _≤_, _<_}
+use native.Mathlib.Decide.{decLt}
+use native.Mathlib.Omega.{arith}
+use lib.Dec.{eqb, leb, ltb}
+use lib.ListN.{length, getD, take, replicate}
+use borrow.Author.Tests.{lt-ltb, le-leb, eq-eqb, ltb-true, leb-true, eqb-true}
+use Rattle.codec.specs.Area.{part, repeated}
+use Rattle.codec.specs.Number.{le, bytes, numberAt}
+use Rattle.codec.proofs.Numbers.{length-bytes, le-bytes}
+use Rattle.bloom.specs.Pages.{sectionCount, fragmentLength}
+use Rattle.skiplist.specs.declared.Pointer.{Pointer}
+use Rattle.skiplist.specs.Skip.{none, levelOf, nodeOf}
+use Rattle.skiplist.specs.PointerBytes.{pointersBytes, pointersAt}
+use Rattle.skiplist.proofs.Pointers.{PointerFits, pointers-decoded}
+use Rattle.skiplist.proofs.Nodes.{length-node, node-below, node-above}
+use Rattle.segment.specs.declared.Closing.{Closing}
+use Rattle.segment.specs.declared.Header.{Header}
+use Rattle.segment.specs.Header.{countBytes, spanBytes, headerPage, countsGood, spanGood, pointerGood, pointersGood, headerGood, headerIn}
+use Rattle.segment.proofs.Fields.{joined, startOf, field-read}
+use Rattle.segment.proofs.HeaderBytes.{fragment-fits, level-most, length-node-bytes, length-header}
+
+-- ---- the numbers
+
+-- a closing's numbers fit their bytes
+pub record NumbersFit (c : Closing) : Type 0 where
+  pub serial-fits : c .serial < 256 ^ 4
+  pub some : 1 ≤ c .count
+  pub most : c .count ≤ 320
+  pub buckets-fit : c .buckets < 256
+  pub start-fits : c .start < 256 ^ 8
+  pub end-fits : c .end < 256 ^ 8
+  pub low-fits : c .low < 256 ^ 4
+  pub high-fits : c .high < 256 ^ 4
+
+-- what the header page h says
+pub record Numbers (h : List ℕ) (c : Closing) : Type 0 where
+  pub serial-is : numberAt h 0 4 ≡ c .serial
+  pub count-is : numberAt h 4 2 ≡ c .count
+  pub buckets-is : numberAt h 6 1 ≡ c .buckets
+  pub sections-is : numberAt h 7 1 ≡ sectionCount (c .count)
+  pub fragment-is : numberAt h 8 1 ≡ fragmentLength (sectionCount (c .count))
+  pub level-is : numberAt h 9 1 ≡ levelOf (c .serial)
+  pub start-is : numberAt h 16 8 ≡ c .start
+  pub end-is : numberAt h 24 8 ≡ c .end
+  pub low-is : numberAt h 32 4 ≡ c .low
+  pub high-is : numberAt h 36 4 ≡ c .high
+
+-- the fields of a header, in front of its zeros
+abbrev fields : Closing → List (List ℕ)
+fields c =
+    bytes 4 (c .serial) ∷ bytes 2 (c .count) ∷ bytes 1 (c .buckets) ∷ bytes 1 (sectionCount (c .count))
+    ∷ bytes 1 (fragmentLength (sectionCount (c .count))) ∷ bytes 1 (levelOf (c .serial)) ∷ repeated 6 0
+    ∷ bytes 8 (c .start) ∷ bytes 8 (c .end) ∷ bytes 4 (c .low) ∷ bytes 4 (c .high)
+    ∷ pointersBytes (nodeOf (c .heads) (levelOf (c .serial))) ∷ []
+
+page-fields : (c : Closing) → headerPage c ≡ joined (fields c) (repeated 432 0)
+unfolding headerPage countBytes spanBytes
+page-fields c = simp append-assoc
+
+number-read : (fs : List (List ℕ)) (last : List ℕ) (k n v : ℕ) → k < length fs → getD fs k [] ≡ bytes n v → v < 256 ^ n
+    → numberAt (joined fs last) (startOf fs k) n ≡ v
+number-read fs last k n v h e b =
+    let l : length (getD fs k []) ≡ n = ap length e ∙ length-bytes n v in
+    ap (λ (m : ℕ). le (part (joined fs last) (startOf fs k) m)) (sym l) ∙ ap le (field-read fs last k h ∙ e) ∙ le-bytes n v b
+
+module _ (c : Closing) (last : List ℕ) (f : NumbersFit c) where
+  numbers-joined : Numbers (joined (fields c) last) c
+  unfolding bytes repeated
+  numbers-joined = record {
+    serial-is = number-read (fields c) last 0 4 (c .serial) (omega arith) refl (f .serial-fits);
+    count-is = number-read (fields c) last 1 2 (c .count) (omega arith) refl (omega (arith, f .most));
+    buckets-is = number-read (fields c) last 2 1 (c .buckets) (omega arith) refl (omega (arith, f .buckets-fit));
+    sections-is = number-read (fields c) last 3 1 (sectionCount (c .count)) (omega arith) refl (omega (arith, f .most));
+    fragment-is = number-read (fields c) last 4 1 (fragmentLength (sectionCount (c .count))) (omega arith) refl (fragment-fits (c .count) _ _ (f .some) (f .most) refl refl);
+    level-is = number-read (fields c) last 5 1 (levelOf (c .serial)) (omega arith) refl (omega (arith, level-most (c .serial)));
+    start-is = number-read (fields c) last 7 8 (c .start) (omega arith) refl (f .start-fits);
+    end-is = number-read (fields c) last 8 8 (c .end) (omega arith) refl (f .end-fits);
+    low-is = number-read (fields c) last 9 4 (c .low) (omega arith) refl (f .low-fits);
+    high-is = number-read (fields c) last 10 4 (c .high) (omega arith) refl (f .high-fits);
+  }
+
+  pointers-joined : length (c .heads) ≡ 4 → part (joined (fields c) last) 40 40 ≡ pointersBytes (nodeOf (c .heads) (levelOf (c .serial)))
+  unfolding bytes repeated
+  pointers-joined four =
+      let l : length (getD (fields c) 11 []) ≡ 40 = length-node-bytes (c .heads) (c .serial) four in
+      ap (λ (m : ℕ). part (joined (fields c) last) 40 m) (sym l) ∙ field-read (fields c) last 11 (omega arith)
+
+pub header-numbers : (c : Closing) → NumbersFit c → Numbers (headerPage c) c
+header-numbers c f = rw page-fields (numbers-joined c (repeated 432 0) f)
+
+-- ---- the pointers
+
+none-fits : PointerFits none
+none-fits = record { slot = omega arith; time = omega arith }
+
+-- the pointers of a node fit where the heads do
+node-fits : (heads : List Pointer) (level : ℕ) → length heads ≡ 4 → level ≤ 4 → ((k : ℕ) → k < 4 → PointerFits (getD heads k none))
+    → (k : ℕ) → k < 4 → PointerFits (getD (nodeOf heads level) k none)
+node-fits heads level four few f k h = go (decLt k level)
+  where
+    go : Dec (k < level) → PointerFits (getD (nodeOf heads level) k none)
+    go (yes l) = rw (node-below heads four level few k l) (f k h)
+    go (no l) = rw (node-above heads four level few k (omega arith) h) none-fits
+
+pointers-read : (s : List ℕ) (at : ℕ) (ps : List Pointer) → length ps ≡ 4 → ((k : ℕ) → k < 4 → PointerFits (getD ps k none))
+    → at + 40 ≤ length s → part s at 40 ≡ pointersBytes ps → pointersAt s at ≡ ps
+pointers-read s at [] l f h e = absurd (omega arith)
+pointers-read s at (a ∷ []) l f h e = absurd (omega arith)
+pointers-read s at (a ∷ b ∷ []) l f h e = absurd (omega arith)
+pointers-read s at (a ∷ b ∷ c ∷ []) l f h e = absurd (omega arith)
+pointers-read s at (a ∷ b ∷ c ∷ d ∷ []) l f h e =
+    pointers-decoded s at a b c d (f 0 (omega arith)) (f 1 (omega arith)) (f 2 (omega arith)) (f 3 (omega arith)) h e
+pointers-read s at (a ∷ b ∷ c ∷ d ∷ p ∷ ps) l f h e = absurd (omega arith)
+
+-- four heads that fit their bytes
+pub record HeadsFit (c : Closing) : Type 0 where
+  pub four : length (c .heads) ≡ 4
+  pub fit : (k : ℕ) → k < 4 → PointerFits (getD (c .heads) k none)
+
+pub header-node : (c : Closing) → NumbersFit c → HeadsFit c → pointersAt (headerPage c) 40 ≡ nodeOf (c .heads) (levelOf (c .serial))
+header-node c f g =
+    let l = length-header c (g .four) in
+    let m = level-most (c .serial) in
+    let e : part (headerPage c) 40 40 ≡ pointersBytes (nodeOf (c .heads) (levelOf (c .serial))) =
+    rw page-fields (pointers-joined c (repeated 432 0) f (g .four)) in
+    pointers-read (headerPage c) 40 (nodeOf (c .heads) (levelOf (c .serial))) (length-node (c .heads) (g .four) (levelOf (c .serial)) m)
+    (node-fits (c .heads) (levelOf (c .serial)) (g .four) m (g .fit)) (omega arith) e
+
+-- ---- the header
+
+-- whether the header of a closing has no damage
+abbrev pub closingGood : Closing → ℕ → ℕ → Bool
+closingGood c slots before =
+    countsGood (c .count) (c .buckets) (sectionCount (c .count)) (fragmentLength (sectionCount (c .count)))
+    && (spanGood (c .start) (c .end) (c .low) (c .high)
+    && (pointersGood slots (nodeOf (c .heads) (levelOf (c .serial))) && ltb (c .serial) before))
+
+-- the header of a closing, with a judgement
+abbrev pub headerOf : Closing → Bool → Header
+headerOf c good = record {
+  good = good;
+  serial = c .serial;
+  count = c .count;
+  buckets = c .buckets;
+  start = c .start;
+  low = c .low;
+  high = c .high;
+  next = nodeOf (c .heads) (levelOf (c .serial));
+}
+
+pub header-read : (c : Closing) (slots before : ℕ) → NumbersFit c → HeadsFit c
+    → headerIn (headerPage c) slots before ≡ headerOf c (closingGood c slots before)
+unfolding headerIn headerGood
+header-read c slots before f g =
+    let n = header-numbers c f in
+    rw (
+      header-node c f g,
+      n .serial-is,
+      n .count-is,
+      n .buckets-is,
+      n .sections-is,
+      n .fragment-is,
+      n .start-is,
+      n .end-is,
+      n .low-is,
+      n .high-is,
+    )
