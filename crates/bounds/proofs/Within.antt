@@ -37,7 +37,7 @@ ground-not n true rest h e = absurd (h e)
 ground-not n false rest h e = refl
 
 -- what a number 0 of the grounds in a row says
-ground-rest : (n : ℕ) (holds : Bool) (rest : ℕ) → (n ≡ 0 → ⊥) → ground n holds rest ≡ 0 → rest ≡ 0
+pub ground-rest : (n : ℕ) (holds : Bool) (rest : ℕ) → (n ≡ 0 → ⊥) → ground n holds rest ≡ 0 → rest ≡ 0
 ground-rest n true rest h e = absurd (h e)
 ground-rest n false rest h e = e
 

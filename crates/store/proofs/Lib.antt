@@ -1,0 +1,3 @@
+pub mod Grounds
+pub mod Steps
+pub mod Outcomes
