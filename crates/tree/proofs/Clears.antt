@@ -23,7 +23,7 @@ use Rattle.tree.specs.Plan.{planHere, planFrom, fitted, planOn}
 use Rattle.tree.specs.Writes.{Write, Writes, writesOf, isClear, allClear, written, allWritten}
 use Rattle.tree.proofs.Descent.{if, none-some}
 
-both : (a b : Bool) → (a && b) ≡ true → (a ≡ true) × (b ≡ true)
+pub both : (a b : Bool) → (a && b) ≡ true → (a ≡ true) × (b ≡ true)
 both true b e = (refl, e)
 both false b e = let z : false ≡ true = e in absurd (let y : _≡_ {A = ℕ} 0 1 = cc in omega arith)
 
@@ -56,7 +56,7 @@ child-below b buckets (some d) c g e =
     let q : d ≡ c = cc in
     omega (arith, ltb-true d buckets (both (ltb b d) (ltb d buckets) g .1))
 
-next-below : (b buckets x y : ℕ) (k : Kids) (l c : ℕ) → kidsGood b buckets x y k ≡ true → next k l ≡ some c → c < buckets
+pub next-below : (b buckets x y : ℕ) (k : Kids) (l c : ℕ) → kidsGood b buckets x y k ≡ true → next k l ≡ some c → c < buckets
 next-below b buckets x y whole l c g e = none-some e
 next-below b buckets x y (split m left right) l c g e =
     let s = both (childGood b buckets left) (childGood b buckets right)
@@ -65,7 +65,7 @@ next-below b buckets x y (split m left right) l c g e =
     (λ f. child-below b buckets left c (s .0) (rw f at e))
     (λ f. child-below b buckets right c (s .1) (rw f at e))
 
-good-kids : (n : Node) (b buckets count : ℕ) → nodeGood n b buckets count ≡ true
+pub good-kids : (n : Node) (b buckets count : ℕ) → nodeGood n b buckets count ≡ true
     → kidsGood b buckets (n .x) (n .y) (kidsOf n) ≡ true
 unfolding nodeGood
 good-kids n b buckets count e =

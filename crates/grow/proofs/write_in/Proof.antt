@@ -1,0 +1,16 @@
+-- `grow::write_in` meets its contract.
+use borrow.Author.Needs.{needs}
+use Rattle.grow.proofs.write_in.Statement.{statement}
+use Rattle.grow.proofs.write_in.Tie as tie
+
+start-of-requires : tie.Need-start-of-requires
+start-of-requires c κs = search needs
+
+add-at : tie.Need-add-at
+add-at c = search needs
+
+returns : tie.Need-returns
+returns c = rw (c .start-of .ensures)
+
+pub write-in-spec : {M : Type 1} → statement M
+write-in-spec = tie.close (tie.spec start-of-requires add-at returns)
