@@ -24,11 +24,11 @@ formatGround nandLength norLength slots = ground 1 (nandBad nandLength slots) (g
 
 -- an append's lift: "4. A time is past its limit. 5. A load is past its limit. 7. An appended time is below next time. 8. An append finds
 -- open serial 999,999,998 or more."
-abbrev pub liftGround : ℕ → ℤ → ℕ → ℕ → ℕ → ℕ
+unfoldable pub liftGround : ℕ → ℤ → ℕ → ℕ → ℕ → ℕ
 liftGround time load next current rest =
     ground 4 (not (timeOk time)) (ground 5 (not (loadOk load)) (ground 7 (ltb time next) (ground 8 (leb 999999998 current) rest)))
 
 -- a search's window: both times, then both loads, then "6. A range runs backwards."
-abbrev pub queryGround : ℕ → ℕ → ℤ → ℤ → ℕ
+unfoldable pub queryGround : ℕ → ℕ → ℤ → ℤ → ℕ
 queryGround t1 t2 k1 k2 =
     ground 4 (not (timeOk t1 && timeOk t2)) (ground 5 (not (loadOk k1 && loadOk k2)) (ground 6 (ltb t2 t1 || ltZ k2 k1) 0))

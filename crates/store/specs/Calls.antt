@@ -1,7 +1,7 @@
 -- The calls that write: their grounds in checking order (document 01, "Twelve grounds") and their outcomes, for any chips and any state.
 -- Assumes nothing.
 use mathlib.Core.Bool.{Bool, true, false, cond, not, _&&_, _||_}
-use mathlib.Core.List.{List, map}
+use mathlib.Core.List.{List, [], map}
 use Prim.Native.Nat.{ℕ, _-_, _/_}
 use lib.Dec.{eqb, leb, ltb}
 use lib.IntN.{ℤ, pos}
@@ -17,13 +17,17 @@ use Rattle.tree.specs.Writes.{writesOf, allClear}
 use Rattle.bounds.specs.Grounds.{ground, nandBad, norBad, formatGround, liftGround}
 use Rattle.bounds.specs.Lifts.{noLoads}
 use Rattle.store.specs.declared.State.{State}
+use Rattle.store.specs.declared.Renewal.{Renewal}
 use Rattle.store.specs.Bounds.{withinBounds}
-use Rattle.store.specs.World.{World, closeWorld, dropWorld, putWorld, nextOldest, closedRemains, fillsPage, fillsSection, sectionStart}
+use Rattle.store.specs.World.{World, world, closeWorld, dropWorld, putWorld, nextOldest, closedRemains, liveAfter, fillsPage, fillsSection, sectionStart}
 
 -- a call's number, with the chips and the state that it leaves
 pub record Outcome : Type 0 where
   pub number : ℕ
   pub world : World
+
+abbrev pub answered : ℕ → List ℕ → List ℕ → State → Outcome
+answered number nand nor s = record { number = number; world = world nand nor s }
 
 -- "A refusal returns its number alone and alters nothing."
 abbrev pub outcome : ℕ → World → World → Outcome
@@ -62,6 +66,11 @@ abbrev pub stateGround : World → ℕ → ℕ → ℕ
 stateGround w slots rest =
     ground 1 (nandBad (length (w .nand)) slots) (ground 2 (norBad (length (w .nor))) (ground 3 (not (withinBounds (w .state) slots)) rest))
 
+-- these alone, by the chips' lengths
+unfoldable pub boundsGround : State → ℕ → ℕ → ℕ → ℕ
+boundsGround s nandLength norLength slots =
+    ground 1 (nandBad nandLength slots) (ground 2 (norBad norLength) (ground 3 (not (withinBounds s slots)) 0))
+
 -- ---- close
 
 -- no open lift; a page due to be programmed is not erased
@@ -80,6 +89,11 @@ closeOutcome w slots = outcome (closeGround w slots) w (closeWorld w slots)
 -- the header that a drop reads is damaged
 abbrev pub dropDamage : World → ℕ → Bool
 dropDamage w slots = closedRemains (w .state) && not (nextOldest w slots .good)
+
+-- what a drop finds in NAND: no damage, and the oldest live time after it
+unfoldable pub renewal : List ℕ → State → ℕ → Renewal
+renewal nand s slots =
+    record { good = not (dropDamage (world nand [] s) slots); live = liveAfter (world nand [] s) slots }
 
 -- no closed segment; damage in the header of the segment that becomes oldest
 unfoldable pub dropGround : World → ℕ → ℕ

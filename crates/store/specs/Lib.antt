@@ -1,4 +1,5 @@
 pub mod Bounds
 pub mod World
 pub mod Calls
+pub mod Pieces
 pub mod Queries

@@ -28,6 +28,9 @@ pub record World : Type 0 where
   pub nor : List ℕ
   pub state : State
 
+abbrev pub world : List ℕ → List ℕ → State → World
+world nand nor s = record { nand = nand; nor = nor; state = s }
+
 -- ---- close
 
 -- what a close needs of the state: "The end time is next time less 1"

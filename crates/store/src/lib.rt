@@ -1,5 +1,23 @@
 // The store (document 01, "State", "Segments", "Twelve grounds"): its state by value, and the calls as methods.
+mod append;
+
+use flash::Page;
+use segment::Closing;
+use segment::Header;
 use skiplist::Pointer;
+ghost use mathlib.Core.Path.{_≡_};
+ghost use mathlib.Core.Bool.{true, false};
+ghost use mathlib.Core.List.{[]};
+ghost use Prim.Native.Nat.{ℕ, _+_, _-_, _*_, _^_, _≤_, _<_};
+ghost use lib.ListN.{length};
+ghost use Rattle.flash.specs.Chip.{slotOf, pageOf, erasedPage, slotErased};
+ghost use Rattle.lift.specs.Limits.{loadOk};
+ghost use Rattle.segment.specs.Header.{headerIn};
+ghost use Rattle.store.specs.Bounds.{headsOk, withinBounds};
+ghost use Rattle.store.specs.World as World;
+ghost use Rattle.store.specs.World.{world, closeWorld, dropWorld};
+ghost use Rattle.store.specs.Calls as Calls;
+ghost use Rattle.store.specs.Calls.{answered, formatted, boundsGround, closeGround, formatOutcome, appendOutcome, closeOutcome, dropOutcome};
 
 // The state, by value, in the order of document 01's list. The last loads, low and high are signed, as logged.
 pub struct State {
@@ -16,4 +34,313 @@ pub struct State {
     pub start: u64,
     pub low: i32,
     pub high: i32,
+}
+
+// A call's number, and the next state: the state as it was where the number is not 0.
+pub struct Answer {
+    pub number: u8,
+    pub state: State,
+}
+
+// What a drop of the oldest closed segment finds: no damage, and the oldest live time after it.
+pub struct Renewal {
+    pub good: bool,
+    pub live: u64,
+}
+
+pub fn blank_page() -> [u8; 512]
+    ensures { λ r. ⌜ r ≡ erasedPage ⌝ }
+{
+    [255u8; 512]
+}
+
+fn heads_ok(heads: [Pointer; 4], slots: u64) -> bool
+    ensures { λ r. ⌜ r ≡ headsOk heads slots ⌝ }
+{
+    let a = heads[0];
+    let b = heads[1];
+    let c = heads[2];
+    let d = heads[3];
+    a.in_slots(slots) & (b.in_slots(slots) & (c.in_slots(slots) & d.in_slots(slots)))
+}
+
+// The header of a closed serial, which is to be below the serial `before`.
+pub fn header_of(nand: &[u8], slots: u64, serial: u32, before: u32) -> Header
+    requires { ⌜ (length (now nand) ≡ slots * 16384) × (1 ≤ slots) × (1 ≤ serial) ⌝ }
+    ensures { λ r. ⌜ r ≡ headerIn (pageOf (now (nand .entry)) (slotOf serial slots) 31) slots before ⌝ }
+{
+    let slot = flash::slot_of(serial, slots);
+    let h = flash::pages_of(nand, slot, Page(segment::HEADER_PAGE), 1);
+    segment::header_in(h, slots, before)
+}
+
+impl State {
+    fn new() -> State
+        ensures { λ r. ⌜ r ≡ formatted ⌝ }
+    {
+        let heads = skiplist::no_heads();
+        let loads = bounds::no_loads();
+        let page = blank_page();
+        let bloom = bloom::empty_section();
+        State {
+            oldest: 1,
+            current: 1,
+            count: 0,
+            buckets: 0,
+            next: 0,
+            live: 0,
+            heads: heads,
+            loads: loads,
+            page: page,
+            bloom: bloom,
+            start: 0,
+            low: 0,
+            high: 0,
+        }
+    }
+
+    // Ground 3.
+    fn within_bounds(self, slots: u64) -> bool
+        ensures { λ r. ⌜ r ≡ withinBounds self slots ⌝ }
+    {
+        let heads = self.heads;
+        let loads = self.loads;
+        let a = bounds::serials_ok(self.oldest, self.current, self.count, slots);
+        let b = bounds::counts_ok(self.current, self.count, self.buckets);
+        let c = bounds::times_ok(self.current, self.count, self.next, self.live, self.start);
+        let d = bounds::span_ok(self.count, self.low, self.high);
+        let e = bounds::loads_ok(loads);
+        let f = heads_ok(heads, slots);
+        a & (b & (c & (d & (e & f))))
+    }
+
+    // Grounds 1 to 3.
+    pub fn ground(self, nand: usize, nor: usize, slots: u64) -> u8
+        ensures { λ r. ⌜ r ≡ boundsGround self nand nor slots ⌝ }
+    {
+        let n = bounds::chips_ground(nand, nor, slots);
+        if n != 0 {
+            return n;
+        }
+        if !self.within_bounds(slots) {
+            return 3;
+        }
+        0
+    }
+
+    // What a close needs.
+    pub fn closing(self) -> Closing
+        requires { ⌜ (1 ≤ self .next) × (loadOk (self .low) ≡ true) × (loadOk (self .high) ≡ true) ⌝ }
+        ensures { λ r. ⌜ r ≡ World.closing self ⌝ }
+    {
+        let heads = self.heads;
+        let page = self.page;
+        let section = self.bloom;
+        let low = lift::stored(self.low);
+        let high = lift::stored(self.high);
+        Closing {
+            serial: self.current,
+            count: self.count,
+            buckets: self.buckets,
+            start: self.start,
+            end: self.next - 1,
+            low: low,
+            high: high,
+            heads: heads,
+            page: page,
+            bloom: section,
+        }
+    }
+
+    // The next serial opens; the segment that was open lies in `slot`.
+    fn moved_on(mut self, slot: usize) -> State
+        requires { ⌜ (slot < 65536) × (self .current < 2 ^ 32 - 1) ⌝ }
+        ensures { λ r. ⌜ r ≡ World.movedOn self slot ⌝ }
+    {
+        let old = self.heads;
+        let level = skiplist::level_of(self.current);
+        let p = Pointer::new(slot as u16, self.start);
+        let heads = skiplist::heads_after(old, level, p);
+        let loads = bounds::no_loads();
+        let page = blank_page();
+        let section = bloom::empty_section();
+        self.heads = heads;
+        self.loads = loads;
+        self.page = page;
+        self.bloom = section;
+        self.current = self.current + 1;
+        self.count = 0;
+        self.buckets = 0;
+        self.start = 0;
+        self.low = 0;
+        self.high = 0;
+        self
+    }
+
+    // The open segment is closed.
+    pub fn closed(self, nand: &mut [u8], nor: &mut [u8], slots: u64) -> State
+        requires { ⌜ (boundsGround self (length (now nand)) (length (now nor)) slots ≡ 0) × (1 ≤ self .count) ⌝ }
+        ensures { λ r. ⌜ world (now (nand .exit)) (now (nor .exit)) r ≡ closeWorld (world (now (nand .entry)) (now (nor .entry)) self) slots ⌝ }
+    {
+        let slot = flash::slot_of(self.current, slots);
+        let c = self.closing();
+        segment::program_pages(nand, nor, slot, c);
+        flash::erase_chip(nor);
+        self.moved_on(slot)
+    }
+
+    // The oldest closed segment is erased.
+    pub fn dropped(mut self, nand: &mut [u8], slots: u64, live: u64) -> State
+        requires { ⌜ (length (now nand) ≡ slots * 16384) × (1 ≤ slots) × (1 ≤ self .oldest) × (self .oldest < self .current) ⌝ }
+        ensures { λ r. ⌜ (now (nand .exit) ≡ slotErased (now (nand .entry)) (slotOf (self .oldest) slots)) × (r ≡ World.withoutOldest self live) ⌝ }
+    {
+        let slot = flash::slot_of(self.oldest, slots);
+        flash::erase_slot(nand, slot);
+        self.oldest = self.oldest + 1;
+        self.live = live;
+        self
+    }
+
+    // What a drop finds in the header of the closed segment that becomes oldest; the open segment has no header.
+    pub fn renewal(self, nand: &[u8], slots: u64) -> Renewal
+        requires { ⌜ (length (now nand) ≡ slots * 16384) × (1 ≤ slots) × (self .oldest < self .current) ⌝ }
+        ensures { λ r. ⌜ r ≡ Calls.renewal (now (nand .entry)) self slots ⌝ }
+    {
+        let serial = self.oldest + 1;
+        if serial < self.current {
+            let h = header_of(nand, slots, serial, self.current);
+            return Renewal {
+                good: h.good,
+                live: h.start,
+            };
+        }
+        if self.count == 0 {
+            return Renewal {
+                good: true,
+                live: self.next,
+            };
+        }
+        Renewal {
+            good: true,
+            live: self.start,
+        }
+    }
+
+    pub fn format(nand: &mut [u8], nor: &mut [u8], slots: u64) -> Answer
+        ensures { λ r. ⌜ answered (r .number) (now (nand .exit)) (now (nor .exit)) (r .state)
+            ≡ formatOutcome (now (nand .entry)) (now (nor .entry)) slots ⌝ }
+    {
+        let n = bounds::chips_ground(nand.len(), nor.len(), slots);
+        let s = State::new();
+        if n != 0 {
+            return Answer {
+                number: n,
+                state: s,
+            };
+        }
+        flash::erase_chip(nand);
+        flash::erase_chip(nor);
+        Answer {
+            number: 0,
+            state: s,
+        }
+    }
+
+    pub fn close(self, nand: &mut [u8], nor: &mut [u8], slots: u64) -> Answer
+        ensures { λ r. ⌜ answered (r .number) (now (nand .exit)) (now (nor .exit)) (r .state)
+            ≡ closeOutcome (world (now (nand .entry)) (now (nor .entry)) self) slots ⌝ }
+    {
+        let n = self.ground(nand.len(), nor.len(), slots);
+        if n != 0 {
+            return Answer {
+                number: n,
+                state: self,
+            };
+        }
+        if self.count == 0 {
+            return Answer {
+                number: 9,
+                state: self,
+            };
+        }
+        let slot = flash::slot_of(self.current, slots);
+        if !segment::pages_erased(nand, slot, self.count, self.buckets) {
+            return Answer {
+                number: 11,
+                state: self,
+            };
+        }
+        let s = self.closed(nand, nor, slots);
+        Answer {
+            number: 0,
+            state: s,
+        }
+    }
+
+    pub fn drop(self, nand: &mut [u8], nor: &[u8], slots: u64) -> Answer
+        ensures { λ r. ⌜ answered (r .number) (now (nand .exit)) (now (nor .entry)) (r .state)
+            ≡ dropOutcome (world (now (nand .entry)) (now (nor .entry)) self) slots ⌝ }
+    {
+        let n = self.ground(nand.len(), nor.len(), slots);
+        if n != 0 {
+            return Answer {
+                number: n,
+                state: self,
+            };
+        }
+        if self.oldest == self.current {
+            return Answer {
+                number: 9,
+                state: self,
+            };
+        }
+        let r = self.renewal(nand, slots);
+        let good = r.good;
+        if !good {
+            return Answer {
+                number: 10,
+                state: self,
+            };
+        }
+        let s = self.dropped(nand, slots, r.live);
+        Answer {
+            number: 0,
+            state: s,
+        }
+    }
+
+    pub fn append(
+        self,
+        nand: &mut [u8],
+        nor: &mut [u8],
+        slots: u64,
+        time: u64,
+        load: i32,
+        note: [u8; 20],
+    ) -> Answer
+        ensures { λ r. ⌜ answered (r .number) (now (nand .exit)) (now (nor .exit)) (r .state)
+            ≡ appendOutcome (world (now (nand .entry)) (now (nor .entry)) self) slots time load note ⌝ }
+    {
+        let n = self.entry_ground(nand.len(), nor.len(), slots, time, load);
+        if n != 0 {
+            return Answer {
+                number: n,
+                state: self,
+            };
+        }
+        let code = lift::stored(load);
+        let p = self.plan(nor, code);
+        let m = self.blocked(nand, nor, slots, code, p);
+        if m != 0 {
+            return Answer {
+                number: m,
+                state: self,
+            };
+        }
+        let s = self.carried_out(nand, nor, slots, time, load, note, p);
+        Answer {
+            number: 0,
+            state: s,
+        }
+    }
 }

@@ -1,0 +1,12 @@
+-- `times_ok`: the test itself.
+use mathlib.Core.Path.{refl}
+use Rattle.bounds.specs.Bounds.{timesOk}
+use Rattle.bounds.proofs.times_ok.Statement.{statement}
+use Rattle.bounds.proofs.times_ok.Tie as tie
+
+returns : tie.Need-returns
+unfolding timesOk
+returns c = refl
+
+pub times-ok-spec : {M : Type 1} → statement M
+times-ok-spec = tie.close (tie.spec returns)

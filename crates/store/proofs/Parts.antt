@@ -1,0 +1,166 @@
+-- What the parts of an append's lift make: the buffers, NAND, NOR and the state after it. By the tests at a page's sixteenth and a section's
+-- sixty-fourth lift. Assumes nothing.
+use mathlib.Core.Path.{_≡_, refl, sym, ap, _∙_}
+use mathlib.Core.Bool.{Bool, true, false, cond, not, _&&_, _||_, false≢true}
+use mathlib.Core.List.{List, [], _∷_, map}
+use Prim.Native.Nat.{ℕ, zero, suc, _+_, _-_, _*_, _/_, _%_, _≤_, _<_}
+use native.Mathlib.Omega.{arith}
+use lib.Dec.{eqb}
+use lib.IntN.{ℤ}
+use lib.ListN.{length, getD}
+use borrow.Author.Tests.{eq-eqb, ne-eqb, eqb-true, eqb-false}
+use Rattle.codec.specs.Area.{part, splice, allOnes}
+use Rattle.codec.proofs.Areas.{length-part}
+use Rattle.flash.specs.Chip.{slotOf, programmed, erasedPage, norTree}
+use Rattle.lift.specs.Limits.{loadOk, stored}
+use Rattle.lift.specs.Record.{recordBytes}
+use Rattle.lift.proofs.Codes.{within-limits}
+use Rattle.bloom.specs.Bloom.{emptySection, noted}
+use Rattle.tree.specs.Plan as Tree
+use Rattle.tree.specs.Plan.{planOn, isNoRoom}
+use Rattle.tree.specs.Writes.{Writes, writesOf, allWritten, allClear, bucketsAfter}
+use Rattle.bounds.specs.Bounds.{loadsOk}
+use Rattle.bounds.specs.Lifts.{pushed, lowWith, highWith}
+use Rattle.bounds.proofs.Within.{and-left, and-right}
+use Rattle.grow.specs.declared.Plan.{Plan}
+use Rattle.grow.specs.Meaning.{meaning, Fitting}
+use Rattle.store.specs.declared.State.{State}
+use Rattle.store.specs.World.{world, putWorld, stateWith, pageWith, bloomWith, fillsPage, fillsSection}
+use Rattle.store.specs.Calls.{planOf, norClear}
+use Rattle.store.specs.Pieces.{Suits, nandWith, norWith, stateGiven}
+
+-- ---- one of two, by a number
+
+module _ {A : Type 0} (n k : ℕ) (x y : A) where
+  pub chosen : (r : A) → n ≡ k → r ≡ x → r ≡ cond (eqb n k) x y
+  chosen r h e = rw (eq-eqb n k h) e
+
+  pub passed : (n ≡ k → ⊥) → y ≡ cond (eqb n k) x y
+  passed h = rw (ne-eqb n k h)
+
+-- a test that is asked only at a number
+pub asked : (n k : ℕ) (e r : Bool) → n ≡ k → r ≡ e → r ≡ not (eqb n k && not e)
+asked n k e r h f = rw (eq-eqb n k h, f) (twice e)
+  where
+    twice : (b : Bool) → b ≡ not (not b)
+    twice true = refl
+    twice false = refl
+
+pub unasked : (n k : ℕ) (e : Bool) → (n ≡ k → ⊥) → true ≡ not (eqb n k && not e)
+unasked n k e h = rw (ne-eqb n k h)
+
+pub asked-or : (n k : ℕ) (e r : Bool) → n ≡ k → r ≡ e → r ≡ (not (eqb n k) || e)
+asked-or n k e r h f = rw (eq-eqb n k h) f
+
+pub unasked-or : (n k : ℕ) (e : Bool) → (n ≡ k → ⊥) → true ≡ (not (eqb n k) || e)
+unasked-or n k e h = rw (ne-eqb n k h)
+
+-- ---- the plan
+
+-- a segment that closes first has lifts; any other has room for one
+module _ (tree : List ℕ) (buckets : ℕ) (codes : List ℕ) (code n : ℕ) where
+  full-some : isNoRoom (planOn tree buckets n codes code) ≡ true → 1 ≤ n
+  unfolding planOn
+  full-some e = go (eqb n 0) refl
+    where
+      go : (b : Bool) → eqb n 0 ≡ b → 1 ≤ n
+      go true u = absurd (false≢true (rw u at e))
+      go false u = let v = eqb-false n 0 u in omega arith
+
+  left-room : n ≤ 320 → isNoRoom (planOn tree buckets n codes code) ≡ false → n < 320
+  unfolding planOn
+  left-room h e = go (eqb n 320) refl
+    where
+      go : (b : Bool) → eqb n 320 ≡ b → n < 320
+      go true u = let v : n ≡ 320 = eqb-true n 320 u in absurd (false≢true (sym (rw v at e)))
+      go false u = let v = eqb-false n 320 u in omega arith
+
+module _ (s : State) (nor tree : List ℕ) (codes : List ℕ) (code : ℕ) (p : Plan) (cut : tree ≡ norTree nor) (past : codes ≡ map stored (s .loads))
+    (is : meaning p ≡ planOn tree (s .buckets) (s .count) codes code) where
+  pub planned : (load : ℤ) → code ≡ stored load → meaning p ≡ planOf (world [] nor s) load
+  planned load e = is ∙ rw (cut, past, e)
+
+  pub suited : s .count ≤ 320 → Fitting (s .buckets) p → Suits s p
+  suited h f = record {
+    fits = f;
+    full = λ e. some-full (s .count) (ap isNoRoom (sym is) ∙ e);
+    room = λ e. room-left (s .count) h (ap isNoRoom (sym is) ∙ e);
+  }
+    where
+      some-full : (n : ℕ) → isNoRoom (planOn tree (s .buckets) n codes code) ≡ true → 1 ≤ n
+      some-full = λ n. full-some tree (s .buckets) codes code n
+
+      room-left : (n : ℕ) → n ≤ 320 → isNoRoom (planOn tree (s .buckets) n codes code) ≡ false → n < 320
+      room-left = λ n. left-room tree (s .buckets) codes code n
+
+-- the last loads as stored are at most 150,001
+pub codes-most : (loads : List ℤ) → loadsOk loads ≡ true → (k : ℕ) → getD (map stored loads) k 0 ≤ 150001
+unfolding loadsOk
+codes-most [] e k = omega arith
+codes-most (l ∷ ls) e zero = within-limits l (and-left (loadOk l) (loadsOk ls) e) .high
+codes-most (l ∷ ls) e (suc k) = codes-most ls (and-right (loadOk l) (loadsOk ls) e) k
+
+pub codes-within : (loads : List ℤ) (codes : List ℕ) → codes ≡ map stored loads → loadsOk loads ≡ true → (k : ℕ) → k < 13 → getD codes k 0 ≤ 150001
+codes-within loads codes e h k l = rw e (codes-most loads h k)
+
+pub tree-long : (nor tree : List ℕ) → tree ≡ norTree nor → length nor ≡ 6144 → 4608 ≤ length tree
+tree-long nor tree e size = omega (arith, ap length e ∙ length-part nor 0 4608 (omega arith))
+
+-- ---- NOR bytes due for writing
+
+pub clear-all : (s : State) (nor : List ℕ) (ws : Writes) (load : ℤ) (p : Tree.Plan) (a b : Bool) → ws ≡ writesOf p (s .buckets) (stored load) (s .count)
+    → a ≡ allClear nor ws → b ≡ (not (eqb (s .count % 64) 63) || allOnes (part nor (4608 + s .count / 64 * 128) 128))
+    → (a && b) ≡ norClear (world [] nor s) load p
+unfolding norClear
+clear-all s nor ws load p a b e f g = rw (f, g, e)
+
+-- ---- the lift
+
+module _ (s : State) (time code : ℕ) (load : ℤ) (note : List ℕ) (coded : code ≡ stored load) where
+  pub recorded-nand : (nand nand' : List ℕ) (slots slot : ℕ) (full : List ℕ) → slot ≡ slotOf (s .current) slots
+      → full ≡ splice (s .page) (s .count % 16 * 32) (recordBytes time code note)
+      → nand' ≡ cond (eqb (s .count % 16) 15) (programmed nand slot (s .count / 16) full) nand → nand' ≡ nandWith nand s slots time load note
+  unfolding nandWith
+  recorded-nand nand nand' slots slot full e f g = rw (← coded, ← f, ← e) g
+
+  pub recorded-page : (full r : List ℕ) → full ≡ splice (s .page) (s .count % 16 * 32) (recordBytes time code note)
+      → r ≡ cond (eqb (s .count % 16) 15) erasedPage full → r ≡ cond (fillsPage s) erasedPage (pageWith s time load note)
+  recorded-page full r f g = rw (← coded, ← f) g
+
+  pub indexed-nor : (p : Tree.Plan) (ws : Writes) (nor nor' nor'' full : List ℕ) → ws ≡ writesOf p (s .buckets) code (s .count)
+      → nor' ≡ allWritten nor ws → full ≡ noted (s .bloom) code
+      → nor'' ≡ cond (eqb (s .count % 64) 63) (splice nor' (4608 + s .count / 64 * 128) full) nor' → nor'' ≡ norWith nor s load p
+  unfolding norWith
+  indexed-nor p ws nor nor' nor'' full e f g h = rw (← coded, ← e, ← f, ← g) h
+
+  pub indexed-section : (full r : List ℕ) → full ≡ noted (s .bloom) code → r ≡ cond (eqb (s .count % 64) 63) emptySection full
+      → r ≡ cond (fillsSection s) emptySection (bloomWith s load)
+  indexed-section full r f g = rw (← coded, ← f) g
+
+pub counted-made : (s : State) (time : ℕ) (load : ℤ) (buckets : ℕ) (page section : List ℕ) (loads : List ℤ) (low high : ℤ) (start live : ℕ)
+    → loads ≡ pushed (s .loads) (s .count) load → low ≡ lowWith (s .count) (s .low) load → high ≡ highWith (s .count) (s .high) load
+    → start ≡ cond (eqb (s .count) 0) time (s .start) → live ≡ cond (eqb (s .count) 0 && eqb (s .oldest) (s .current)) time (s .live)
+    → _≡_ {A = State} (record {
+      oldest = s .oldest;
+      current = s .current;
+      count = s .count + 1;
+      buckets = buckets;
+      next = time + 1;
+      live = live;
+      heads = s .heads;
+      loads = loads;
+      page = page;
+      bloom = section;
+      start = start;
+      low = low;
+      high = high;
+    }) (stateGiven s time load buckets page section)
+unfolding stateGiven
+counted-made s time load buckets page section loads low high start live a b c d e = rw (a, b, c, d, e)
+
+pub put-made : (nand nor nand' nor' : List ℕ) (s s' : State) (slots time : ℕ) (load : ℤ) (note : List ℕ) (p : Tree.Plan) (buckets : ℕ) (page section : List ℕ)
+    → nand' ≡ nandWith nand s slots time load note → nor' ≡ norWith nor s load p → page ≡ cond (fillsPage s) erasedPage (pageWith s time load note)
+    → section ≡ cond (fillsSection s) emptySection (bloomWith s load) → buckets ≡ bucketsAfter p (s .buckets)
+    → s' ≡ stateGiven s time load buckets page section → world nand' nor' s' ≡ putWorld (world nand nor s) slots time load note p
+unfolding putWorld stateWith nandWith norWith stateGiven
+put-made nand nor nand' nor' s s' slots time load note p buckets page section a b c d e f = rw (a, b, f, c, d, e)

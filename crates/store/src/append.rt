@@ -1,0 +1,379 @@
+// The pieces of an append (document 01, "Segments"): its plan, grounds 10 and 11, the close and the drop that make room, and the lift that is put.
+use crate::State;
+use flash::Page;
+use grow::Plan;
+ghost use mathlib.Core.Path.{_≡_};
+ghost use mathlib.Core.Bool.{true, false, cond, not, _&&_, _||_};
+ghost use mathlib.Core.List.{List, []};
+ghost use Prim.Native.Nat.{ℕ, _+_, _-_, _*_, _/_, _%_, _^_, _≤_, _<_};
+ghost use lib.Dec.{eqb};
+ghost use lib.IntN.{ℤ};
+ghost use lib.ListN.{length};
+ghost use Rattle.codec.specs.Area.{part, splice, allOnes};
+ghost use Rattle.flash.specs.Chip.{slotOf, erasedPage, pageErased, programmed};
+ghost use Rattle.lift.specs.Limits.{loadOk, stored};
+ghost use Rattle.bloom.specs.Bloom.{emptySection, noted};
+ghost use Rattle.tree.specs.Plan as Tree;
+ghost use Rattle.tree.specs.Plan.{noRoom, isDamaged, isNoRoom};
+ghost use Rattle.tree.specs.Writes.{writesOf, allWritten};
+ghost use Rattle.grow.specs.Meaning.{meaning, Fitting};
+ghost use Rattle.bounds.specs.Bounds.{loadsOk};
+ghost use Rattle.store.specs.World.{world, closeWorld, putWorld, pageWith, bloomWith, fillsPage, fillsSection, sectionStart};
+ghost use Rattle.store.specs.Calls.{boundsGround, dropDamage, planOf, roomWorld, norClear};
+ghost use Rattle.store.specs.Calls as Calls;
+ghost use Rattle.store.specs.Pieces as Pieces;
+ghost use Rattle.store.specs.Pieces.{Suits, laterGround, dropDue, stateGiven, entryGround};
+
+fn is_damaged_plan(p: Plan) -> bool
+    ensures { λ r. ⌜ r ≡ isDamaged (meaning p) ⌝ }
+{
+    match p {
+        Plan::Damage => true,
+        Plan::Full => false,
+        Plan::Root => false,
+        Plan::Entry(_, _) => false,
+        Plan::Child(_, _, _, _) => false,
+        Plan::Split(_, _, _, _, _) => false,
+    }
+}
+
+// The segment closes first.
+fn is_full(p: Plan) -> bool
+    ensures { λ r. ⌜ r ≡ isNoRoom (meaning p) ⌝ }
+{
+    match p {
+        Plan::Damage => false,
+        Plan::Full => true,
+        Plan::Root => false,
+        Plan::Entry(_, _) => false,
+        Plan::Child(_, _, _, _) => false,
+        Plan::Split(_, _, _, _, _) => false,
+    }
+}
+
+// The Bloom section that the lift at this place fills can be written.
+fn section_clear(nor: &[u8], count: u16) -> bool
+    requires { ⌜ (length (now nor) ≡ 6144) × (count ≤ 320) ⌝ }
+    ensures { λ r. ⌜ r ≡ (not (eqb (count % 64) 63) || allOnes (part (now (nor .entry)) (4608 + count / 64 * 128) 128)) ⌝ }
+{
+    let n = count as usize;
+    if n % 64 != 63 {
+        return true;
+    }
+    codec::all_ones(nor, 4608 + n / 64 * 128, 128)
+}
+
+// The page that the lift at this place fills can be programmed.
+fn page_free(nand: &[u8], slot: usize, count: u16) -> bool
+    requires { ⌜ (slot * 16384 + 16384 ≤ length (now nand)) × (count ≤ 320) ⌝ }
+    ensures { λ r. ⌜ r ≡ not (eqb (count % 16) 15 && not (pageErased (now (nand .entry)) slot (count / 16))) ⌝ }
+{
+    let n = count as usize;
+    if n % 16 != 15 {
+        return true;
+    }
+    flash::is_erased(nand, slot, Page(n / 16))
+}
+
+// The page buffer after a lift; it goes to NAND when it is full.
+fn page_after(nand: &mut [u8], slot: usize, count: u16, page: [u8; 512]) -> [u8; 512]
+    requires { ⌜ (slot * 16384 + 16384 ≤ length (now nand)) × (count ≤ 320) ⌝ }
+    ensures nand { λ _. ⌜ now (nand .exit) ≡ cond (eqb (count % 16) 15) (programmed (now (nand .entry)) slot (count / 16) page) (now (nand .entry)) ⌝ }
+    ensures page { λ r. ⌜ r ≡ cond (eqb (count % 16) 15) erasedPage page ⌝ }
+{
+    let n = count as usize;
+    if n % 16 != 15 {
+        return page;
+    }
+    flash::program(nand, slot, Page(n / 16), page);
+    crate::blank_page()
+}
+
+// The Bloom buffer after a lift; it goes to NOR when it is full.
+fn section_after(nor: &mut [u8], count: u16, section: [u8; 128]) -> [u8; 128]
+    requires { ⌜ (length (now nor) ≡ 6144) × (count ≤ 320) ⌝ }
+    ensures nor { λ _. ⌜ now (nor .exit) ≡ cond (eqb (count % 64) 63) (splice (now (nor .entry)) (4608 + count / 64 * 128) section) (now (nor .entry)) ⌝ }
+    ensures section { λ r. ⌜ r ≡ cond (eqb (count % 64) 63) emptySection section ⌝ }
+{
+    let n = count as usize;
+    if n % 64 != 63 {
+        return section;
+    }
+    codec::copy(nor, 4608 + n / 64 * 128, &section);
+    bloom::empty_section()
+}
+
+// The segment's start after a lift, and the oldest live time.
+fn start_after(count: u16, start: u64, time: u64) -> u64
+    ensures { λ r. ⌜ r ≡ cond (eqb count 0) time start ⌝ }
+{
+    if count == 0 {
+        return time;
+    }
+    start
+}
+
+fn live_after(count: u16, oldest: u32, current: u32, live: u64, time: u64) -> u64
+    ensures { λ r. ⌜ r ≡ cond (eqb count 0 && eqb oldest current) time live ⌝ }
+{
+    if (count == 0) & (oldest == current) {
+        return time;
+    }
+    live
+}
+
+impl State {
+    // Grounds 1 to 8.
+    pub fn entry_ground(self, nand: usize, nor: usize, slots: u64, time: u64, load: i32) -> u8
+        ensures { λ r. ⌜ r ≡ entryGround self nand nor slots time load ⌝ }
+    {
+        let n = self.ground(nand, nor, slots);
+        if n != 0 {
+            return n;
+        }
+        bounds::lift_ground(time, load, self.next, self.current)
+    }
+
+    // Where the load goes, by the buckets on its path.
+    pub fn plan(self, nor: &[u8], code: u32) -> Plan
+        requires { ⌜ (length (now nor) ≡ 6144) × (self .buckets ≤ 36) × (self .count ≤ 320) × (loadsOk (self .loads) ≡ true) ⌝ }
+        ensures is { λ r. ⌜ ((load : ℤ) → code ≡ stored load → meaning r ≡ planOf (world [] (now (nor .entry)) self) load) ⌝ }
+        ensures suits { λ r. ⌜ Suits self r ⌝ }
+    {
+        let loads = self.loads;
+        let codes = bounds::stored_loads(loads);
+        let tree = flash::nor_tree(nor);
+        grow::plan_for(tree, self.buckets, self.count, codes, code)
+    }
+
+    // The first append to this serial drops the oldest closed segment.
+    fn drops_first(self, slots: u64) -> bool
+        requires { ⌜ self .oldest ≤ self .current ⌝ }
+        ensures { λ r. ⌜ r ≡ Pieces.dropsFirst self slots ⌝ }
+    {
+        (self.count == 0) & (slots <= (self.current - self.oldest) as u64)
+    }
+
+    // No damage in the header that a forced drop reads.
+    fn drop_good(self, nand: &[u8], slots: u64) -> bool
+        requires { ⌜ (length (now nand) ≡ slots * 16384) × (1 ≤ slots) × (self .oldest ≤ self .current) ⌝ }
+        ensures { λ r. ⌜ r ≡ not (Pieces.dropsFirst self slots && dropDamage (world (now (nand .entry)) [] self) slots) ⌝ }
+    {
+        if !self.drops_first(slots) {
+            return true;
+        }
+        let r = self.renewal(nand, slots);
+        r.good
+    }
+
+    // The same after a close in this call: of two slots the header is the one to be programmed.
+    fn closing_good(self, nand: &[u8], slots: u64) -> bool
+        requires { ⌜ (boundsGround self (length (now nand)) 6144 slots ≡ 0) × (1 ≤ self .count) ⌝ }
+        ensures { λ r. ⌜ ((nor : List ℕ) → length nor ≡ 6144 → r ≡ Pieces.forcedGood (closeWorld (world (now (nand .entry)) nor self) slots) slots) ⌝ }
+    {
+        let current = self.current + 1;
+        let held = (current - self.oldest) as u64;
+        if held < slots {
+            return true;
+        }
+        if slots == 2 {
+            let c = self.closing();
+            let h = segment::header_page(c);
+            let r = segment::header_in(&h, slots, current);
+            return r.good;
+        }
+        let r = crate::header_of(nand, slots, self.oldest + 1, current);
+        r.good
+    }
+
+    // Grounds 10 and 11 of an append that closes first.
+    fn blocked_closing(self, nand: &[u8], slots: u64) -> u8
+        requires { ⌜ (boundsGround self (length (now nand)) 6144 slots ≡ 0) × (1 ≤ self .count) ⌝ }
+        ensures { λ r. ⌜ ((nor : List ℕ) (load : ℤ) → length nor ≡ 6144 → r ≡ laterGround (world (now (nand .entry)) nor self) slots load noRoom) ⌝ }
+    {
+        if !self.closing_good(nand, slots) {
+            return 10;
+        }
+        let slot = flash::slot_of(self.current, slots);
+        if !segment::pages_erased(nand, slot, self.count, self.buckets) {
+            return 11;
+        }
+        0
+    }
+
+    // All NOR bytes due for writing are 255.
+    fn is_clear(self, nor: &[u8], code: u32, p: Plan) -> bool
+        requires { ⌜ (length (now nor) ≡ 6144) × (self .buckets ≤ 36) × (self .count ≤ 320) × Fitting (self .buckets) p ⌝ }
+        ensures { λ r. ⌜ ((load : ℤ) → code ≡ stored load → r ≡ norClear (world [] (now (nor .entry)) self) load (meaning p)) ⌝ }
+    {
+        let w = grow::writes_of(p, self.buckets, code, self.count);
+        grow::clear(nor, w) & section_clear(nor, self.count)
+    }
+
+    // Grounds 10 and 11 of an append into the open segment as it is.
+    fn blocked_put(self, nand: &[u8], nor: &[u8], slots: u64, code: u32, p: Plan) -> u8
+        requires { ⌜ (boundsGround self (length (now nand)) (length (now nor)) slots ≡ 0) × Suits self p ⌝ }
+        requires { ⌜ (isDamaged (meaning p) ≡ false) × (isNoRoom (meaning p) ≡ false) ⌝ }
+        ensures { λ r. ⌜ ((load : ℤ) → code ≡ stored load → r ≡ laterGround (world (now (nand .entry)) (now (nor .entry)) self) slots load (meaning p)) ⌝ }
+    {
+        let good = self.drop_good(nand, slots);
+        let clear = self.is_clear(nor, code, p);
+        if !(good & clear) {
+            return 10;
+        }
+        let slot = flash::slot_of(self.current, slots);
+        if !page_free(nand, slot, self.count) {
+            return 11;
+        }
+        0
+    }
+
+    // Grounds 10 and 11.
+    pub fn blocked(self, nand: &[u8], nor: &[u8], slots: u64, code: u32, p: Plan) -> u8
+        requires { ⌜ (boundsGround self (length (now nand)) (length (now nor)) slots ≡ 0) × Suits self p ⌝ }
+        ensures { λ r. ⌜ ((load : ℤ) → code ≡ stored load → r ≡ laterGround (world (now (nand .entry)) (now (nor .entry)) self) slots load (meaning p)) ⌝ }
+    {
+        if is_damaged_plan(p) {
+            return 10;
+        }
+        if is_full(p) {
+            return self.blocked_closing(nand, slots);
+        }
+        self.blocked_put(nand, nor, slots, code, p)
+    }
+
+    // A close if it is due.
+    fn room(self, nand: &mut [u8], nor: &mut [u8], slots: u64, p: Plan) -> State
+        requires { ⌜ (boundsGround self (length (now nand)) (length (now nor)) slots ≡ 0) × Suits self p ⌝ }
+        ensures { λ r. ⌜ world (now (nand .exit)) (now (nor .exit)) r ≡ roomWorld (world (now (nand .entry)) (now (nor .entry)) self) slots (meaning p) ⌝ }
+    {
+        if is_full(p) {
+            return self.closed(nand, nor, slots);
+        }
+        self
+    }
+
+    // A drop if it is due.
+    fn dropped_first(self, nand: &mut [u8], slots: u64) -> State
+        requires { ⌜ (length (now nand) ≡ slots * 16384) × (1 ≤ slots) × (1 ≤ self .oldest) × (self .oldest ≤ self .current) ⌝ }
+        ensures { λ r. ⌜ world (now (nand .exit)) [] r ≡ dropDue (world (now (nand .entry)) [] self) slots ⌝ }
+    {
+        if !self.drops_first(slots) {
+            return self;
+        }
+        let r = self.renewal(nand, slots);
+        self.dropped(nand, slots, r.live)
+    }
+
+    // The record goes into the page buffer, and a full page to NAND.
+    fn recorded(
+        self,
+        nand: &mut [u8],
+        slots: u64,
+        time: u64,
+        code: u32,
+        note: [u8; 20],
+    ) -> [u8; 512]
+        requires { ⌜ (length (now nand) ≡ slots * 16384) × (1 ≤ slots) × (1 ≤ self .current) × (self .count ≤ 320) ⌝ }
+        ensures nand { λ _. ⌜ ((load : ℤ) → code ≡ stored load → now (nand .exit) ≡ Pieces.nandWith (now (nand .entry)) self slots time load note) ⌝ }
+        ensures page { λ r. ⌜ ((load : ℤ) → code ≡ stored load → r ≡ cond (fillsPage self) erasedPage (pageWith self time load note)) ⌝ }
+    {
+        let n = self.count as usize;
+        let slot = flash::slot_of(self.current, slots);
+        let old = self.page;
+        let full = lift::with_record(old, n % 16 * 32, time, code, note);
+        page_after(nand, slot, self.count, full)
+    }
+
+    // The entry goes into the tree, the load's bits into the section, and a full section to NOR.
+    fn indexed(self, nor: &mut [u8], code: u32, p: Plan) -> [u8; 128]
+        requires { ⌜ (length (now nor) ≡ 6144) × (self .buckets ≤ 36) × (self .count ≤ 320) × Fitting (self .buckets) p × (1 ≤ code) ⌝ }
+        ensures nor { λ _. ⌜ ((load : ℤ) → code ≡ stored load → now (nor .exit) ≡ Pieces.norWith (now (nor .entry)) self load (meaning p)) ⌝ }
+        ensures section { λ r. ⌜ ((load : ℤ) → code ≡ stored load → r ≡ cond (fillsSection self) emptySection (bloomWith self load)) ⌝ }
+    {
+        let w = grow::writes_of(p, self.buckets, code, self.count);
+        grow::carry(nor, w);
+        let old = self.bloom;
+        let full = bloom::note(old, code);
+        section_after(nor, self.count, full)
+    }
+
+    // The state with the lift, its bucket count and buffers given.
+    fn counted(
+        self,
+        time: u64,
+        load: i32,
+        buckets: u8,
+        page: [u8; 512],
+        section: [u8; 128],
+    ) -> State
+        requires { ⌜ (self .count ≤ 320) × (time ≤ 999999999999999) ⌝ }
+        ensures { λ r. ⌜ r ≡ stateGiven self time load buckets page section ⌝ }
+    {
+        let heads = self.heads;
+        let old = self.loads;
+        let loads = bounds::pushed(old, self.count, load);
+        let low = bounds::low_after(self.count, self.low, load);
+        let high = bounds::high_after(self.count, self.high, load);
+        let start = start_after(self.count, self.start, time);
+        let live = live_after(self.count, self.oldest, self.current, self.live, time);
+        State {
+            oldest: self.oldest,
+            current: self.current,
+            count: self.count + 1,
+            buckets: buckets,
+            next: time + 1,
+            live: live,
+            heads: heads,
+            loads: loads,
+            page: page,
+            bloom: section,
+            start: start,
+            low: low,
+            high: high,
+        }
+    }
+
+    // The lift goes last into the open segment.
+    fn put(
+        self,
+        nand: &mut [u8],
+        nor: &mut [u8],
+        slots: u64,
+        time: u64,
+        load: i32,
+        note: [u8; 20],
+        p: Plan,
+    ) -> State
+        requires { ⌜ (length (now nand) ≡ slots * 16384) × (length (now nor) ≡ 6144) × (1 ≤ slots) × (1 ≤ self .current) ⌝ }
+        requires { ⌜ (self .count ≤ 320) × (self .buckets ≤ 36) × Fitting (self .buckets) p ⌝ }
+        requires { ⌜ (time ≤ 999999999999999) × (loadOk load ≡ true) ⌝ }
+        ensures { λ r. ⌜ world (now (nand .exit)) (now (nor .exit)) r ≡ putWorld (world (now (nand .entry)) (now (nor .entry)) self) slots time load note (meaning p) ⌝ }
+    {
+        let code = lift::stored(load);
+        let page = self.recorded(nand, slots, time, code, note);
+        let section = self.indexed(nor, code, p);
+        let buckets = grow::buckets_after(p, self.buckets);
+        self.counted(time, load, buckets, page, section)
+    }
+
+    // Room for the lift, then the lift.
+    pub fn carried_out(
+        self,
+        nand: &mut [u8],
+        nor: &mut [u8],
+        slots: u64,
+        time: u64,
+        load: i32,
+        note: [u8; 20],
+        p: Plan,
+    ) -> State
+        requires { ⌜ (boundsGround self (length (now nand)) (length (now nor)) slots ≡ 0) × Suits self p ⌝ }
+        requires { ⌜ (time ≤ 999999999999999) × (loadOk load ≡ true) ⌝ }
+        ensures { λ r. ⌜ world (now (nand .exit)) (now (nor .exit)) r ≡ Pieces.carriedOut (world (now (nand .entry)) (now (nor .entry)) self) slots time load note (meaning p) ⌝ }
+    {
+        let a = self.room(nand, nor, slots, p);
+        let b = a.dropped_first(nand, slots);
+        b.put(nand, nor, slots, time, load, note, p)
+    }
+}
