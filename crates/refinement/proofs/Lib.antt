@@ -16,3 +16,5 @@ pub mod Append
 pub mod Grounds
 pub mod Begun
 pub mod Steps
+pub mod Wanted
+pub mod Records
