@@ -18,3 +18,4 @@ pub mod Begun
 pub mod Steps
 pub mod Wanted
 pub mod Records
+pub mod OneSegment
