@@ -19,3 +19,6 @@ pub mod Steps
 pub mod PagesKept
 pub mod NorClears
 pub mod AllCalls
+pub mod Wanted
+pub mod Records
+pub mod OneSegment
