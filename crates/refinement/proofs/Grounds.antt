@@ -116,7 +116,7 @@ lifted : (h : History) (g : Good h) (l : Lift) → (loadOk (l .load) ≡ true �
     (B.ground 10 (appendDamage (roomWorld (image h) (h .log .slots) (planOf (image h) (l .load))) (h .log .slots) (l .load) (planOf (image h) (l .load)))
     (B.ground 11 (appendUnerased (image h) (roomWorld (image h) (h .log .slots) (planOf (image h) (l .load))) (h .log .slots) (planOf (image h) (l .load))) 0))
     ≡ Paper.ground 4 (not (timeOk (l .time))) (Paper.ground 5 (not (loadOk (l .load))) (Paper.ground 7 (ltb (l .time) (h .log .next)) (Paper.ground 8 (leb 999999998 (openSerial (h .log))) 0)))
-unfolding image stateImage
+unfolding image stateImage B.liftGround
 lifted h g l gl = append-rest _ _ _ _ _ _ (λ a b c d.
     let lift = gl (passed _ b) (passed _ a) in
     let later = ltb-false (l .time) (h .log .next) c in

@@ -22,3 +22,4 @@ pub mod AllCalls
 pub mod Wanted
 pub mod Records
 pub mod OneSegment
+pub mod ReadBack

@@ -11,7 +11,7 @@ use lib.ListN.{length, drop, set, replicate, length-append, length-map}
 use lib.Seq.{drop-drop, drop-append-le, set-at, append-snoc}
 use lib.Signed.{ltZ}
 use borrow.Author.Tests.{lt-ltb, le-ltb, eq-eqb, ne-eqb}
-use Rattle.bounds.specs.Lifts.{pushed, lowWith, highWith}
+use Rattle.bounds.specs.Lifts.{pushed, shifted, lowWith, highWith}
 use Rattle.paper_log.specs.Log.{Lift}
 use Rattle.refinement.specs.Segments as S
 use Rattle.refinement.specs.Image.{firstStart}
@@ -19,7 +19,7 @@ use Rattle.refinement.proofs.OneMore.{map-snoc, length-snoc}
 
 -- the last 13 loads
 pub last-loads : (xs : List ℤ) (x : ℤ) → pushed (S.lastThirteen xs) (length xs) x ≡ S.lastThirteen (xs ++ (x ∷ []))
-unfolding pushed S.lastThirteen
+unfolding pushed S.lastThirteen shifted
 last-loads xs x = go (decLt (length xs) 13)
   where
     n : length (xs ++ (x ∷ [])) ≡ length xs + 1

@@ -58,7 +58,7 @@ module _ (ls : List Lift) (g : GoodLifts ls) where
   abbrev Stands : List ℕ → ℕ → ℕ → Type 0
   Stands s at p = (at + 32 ≤ length s) × (part s at 32 ≡ rowOf (getD ls p noLift))
 
-  held : (s : List ℕ) (at p : ℕ) → p < length ls → Stands s at p
+  pub held : (s : List ℕ) (at p : ℕ) → p < length ls → Stands s at p
       → Holds s at (getD ls p noLift .time) (stored (getD ls p noLift .load)) (getD ls p noLift .note)
   held s at p h w =
       let l = good-at ls p g h in
@@ -76,7 +76,7 @@ module _ (ls : List Lift) (g : GoodLifts ls) where
   }
 
   -- record p of the lift area
-  row-in-area : (p : ℕ) → p < length ls → part (liftArea ls) (p * 32) 32 ≡ rowOf (getD ls p noLift)
+  pub row-in-area : (p : ℕ) → p < length ls → part (liftArea ls) (p * 32) 32 ≡ rowOf (getD ls p noLift)
   unfolding liftArea recordsOf
   row-in-area p h =
       part-append-left (recordsOf ls) _ (p * 32) 32 (omega (arith, length-records ls g))
