@@ -18,8 +18,10 @@ pub mod Begun
 pub mod Steps
 pub mod PagesKept
 pub mod NorClears
+pub mod Reached
 pub mod AllCalls
 pub mod Wanted
 pub mod Records
 pub mod OneSegment
 pub mod ReadBack
+pub mod EachCall

@@ -34,7 +34,7 @@ kept-then slots a b c erases f g s p h k =
     (λ e. ⊎-elim (λ d. inl (d ∙ e)) (⊎-elim (λ z. inr (inl (ap allOnes (sym e) ∙ z))) (λ z. inr (inr z))) (g s p h k))
     (λ z. inr z) (f s p h k)
 
-kept-same : (slots : ℕ) (a b : List ℕ) (erases : ℕ → Type 0) → b ≡ a → PagesKept slots a b erases
+pub kept-same : (slots : ℕ) (a b : List ℕ) (erases : ℕ → Type 0) → b ≡ a → PagesKept slots a b erases
 kept-same slots a b erases e s p h k = inl (ap (λ (n : List ℕ). pageOf n s p) e)
 
 -- more slots may be erased
@@ -131,12 +131,12 @@ drop-kept slots oldest ms rest current next gone g =
         let e : oldest + 1 ≡ suc oldest = omega arith in
         inl (rw (heads-left slots oldest ms rest current next gone g, e) (sym (first-skips slots oldest ms rest current (oldestHeads h) s p (λ q. f (sym q)))))
 
-some-kept : (slots oldest : ℕ) (closed : List (List Lift)) (current : List Lift) (next : ℕ) (gone : List ℕ)
-    → Good (history slots oldest closed current next gone) → slots ≤ length closed
+pub some-kept : (slots oldest : ℕ) (closed : List (List Lift)) (current : List Lift) (next : ℕ) (gone : List ℕ)
+    → Good (history slots oldest closed current next gone) → 0 < length closed
     → PagesKept slots (nandImage (history slots oldest closed current next gone)) (nandImage (dropHistory (history slots oldest closed current next gone)))
     (λ s. (dropHistory (history slots oldest closed current next gone) .log .oldest ≡ oldest + 1) × (s ≡ slotOf oldest slots))
 unfolding dropLog
-some-kept slots oldest [] current next gone g q = absurd (omega (arith, g .least))
+some-kept slots oldest [] current next gone g q = absurd (omega arith)
 some-kept slots oldest (ms ∷ rest) current next gone g q =
     kept-wider slots _ _ (λ s. s ≡ slotOf oldest slots) _ (λ s e. (refl, e)) (drop-kept slots oldest ms rest current next gone g)
 
@@ -159,7 +159,8 @@ shed-kept r g = go (leb (r .log .slots) (length (r .log .closed))) refl
   where
     go : (t : Bool) → leb (r .log .slots) (length (r .log .closed)) ≡ t
         → PagesKept (r .log .slots) (nandImage r) (nandImage (cond t (dropHistory r) r)) (Goes r (cond t (dropHistory r) r))
-    go true e = some-kept (r .log .slots) (r .log .oldest) (r .log .closed) (r .log .current) (r .log .next) (r .gone) g (leb-true _ _ e)
+    go true e = some-kept (r .log .slots) (r .log .oldest) (r .log .closed) (r .log .current) (r .log .next) (r .gone) g
+        (omega (arith, g .least, leb-true (r .log .slots) (length (r .log .closed)) e))
     go false e = kept-same (r .log .slots) (nandImage r) (nandImage r) (Goes r r) refl
 
 close-oldest : (h : History) → closeHistory h .log .oldest ≡ h .log .oldest

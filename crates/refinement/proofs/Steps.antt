@@ -70,7 +70,7 @@ good-by m h a g f = go (eqb m 0) refl
 -- ---- close
 
 module _ (h : History) (g : Good h) (k : ℕ) where
-  close-some : Paper.numberOf (h .log) (Paper.close k) ≡ 0 → (k ≡ h .log .slots) × (0 < length (h .log .current))
+  pub close-some : Paper.numberOf (h .log) (Paper.close k) ≡ 0 → (k ≡ h .log .slots) × (0 < length (h .log .current))
   unfolding Paper.numberOf
   close-some e =
       let a = first-zero 0 (not (eqb k (h .log .slots))) _ e in
@@ -90,7 +90,7 @@ module _ (h : History) (g : Good h) (k : ℕ) where
 -- ---- drop
 
 module _ (h : History) (g : Good h) (k : ℕ) where
-  drop-some : Paper.numberOf (h .log) (Paper.drop k) ≡ 0 → (k ≡ h .log .slots) × (0 < length (h .log .closed))
+  pub drop-some : Paper.numberOf (h .log) (Paper.drop k) ≡ 0 → (k ≡ h .log .slots) × (0 < length (h .log .closed))
   unfolding Paper.numberOf
   drop-some e =
       let a = first-zero 0 (not (eqb k (h .log .slots))) _ e in
