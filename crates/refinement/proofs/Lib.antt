@@ -19,3 +19,4 @@ pub mod Steps
 pub mod Wanted
 pub mod Records
 pub mod OneSegment
+pub mod PassedOver
