@@ -20,3 +20,4 @@ pub mod Wanted
 pub mod Records
 pub mod OneSegment
 pub mod PassedOver
+pub mod Pointers
