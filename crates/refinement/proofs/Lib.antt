@@ -21,3 +21,4 @@ pub mod Records
 pub mod OneSegment
 pub mod PassedOver
 pub mod Pointers
+pub mod LevelOne
