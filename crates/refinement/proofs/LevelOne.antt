@@ -38,7 +38,7 @@ use Rattle.refinement.proofs.Slots.{slot-below}
 use Rattle.refinement.proofs.InBounds.{start-below}
 use Rattle.refinement.proofs.PageFrom.{headsAt}
 use Rattle.refinement.proofs.Retained.{Among, facts, built, retained-page, retained-header}
-use Rattle.refinement.proofs.Wanted.{joined-append, among-append, early-all}
+use Rattle.refinement.proofs.Wanted.{map-append, joined-append, among-append, early-all}
 use Rattle.refinement.proofs.Records.{pages-are}
 use Rattle.refinement.proofs.OneSegment.{closed-rows}
 use Rattle.refinement.proofs.PassedOver.{passed-none}
@@ -169,10 +169,6 @@ module _ (h : History) (g : Good h) (t1 t2 : ℕ) (k1 k2 : ℤ) (ok1 : loadOk k1
   unfolding rowsFrom
   first-of n c = refl
 
-  map-append : (a b : List Lift) → map rowOf (a ++ b) ≡ map rowOf a ++ map rowOf b
-  map-append [] b = refl
-  map-append (l ∷ a) b = ap (λ (x : List (List ℕ)). rowOf l ∷ x) (map-append a b)
-
   -- a segment and those before it
   taken : (n : ℕ) (before : List (List Lift)) (ls : List Lift) (after : List (List Lift)) (is : h .log .closed ≡ before ++ (ls ∷ after))
       → Finds n → length before < n → (c : Cursor) → c .last ≡ false → c .next ≡ pointerTo h before ls → h .log .oldest + length before < c .before
@@ -191,7 +187,7 @@ module _ (h : History) (g : Good h) (t1 t2 : ℕ) (k1 k2 : ℤ) (ok1 : loadOk k1
           rw (onward n before ls after is f l, passed h g before ls after is t1 t2 k1 k2 ok1 ok2 q, append-nil (wantedIn before))
       go false q =
           rw (onward n before ls after is f l, visited h g before ls after is t1 t2 k1 k2 ok1 ok2)
-          (ap some (sym (map-append (wantedIn before) (among t1 t2 k1 k2 ls))))
+          (ap some (sym (map-append rowOf (wantedIn before) (among t1 t2 k1 k2 ls))))
 
   step : (n : ℕ) → Finds n → Finds (suc n)
   unfolding among joined

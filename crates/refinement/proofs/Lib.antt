@@ -22,3 +22,5 @@ pub mod OneSegment
 pub mod PassedOver
 pub mod Pointers
 pub mod LevelOne
+pub mod SkipWalk
+pub mod SearchFound
