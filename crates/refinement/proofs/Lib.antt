@@ -24,3 +24,5 @@ pub mod Pointers
 pub mod LevelOne
 pub mod SkipWalk
 pub mod SearchFound
+pub mod SearchStep
+pub mod TallyFound

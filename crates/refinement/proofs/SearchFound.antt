@@ -31,7 +31,7 @@ use Rattle.refinement.proofs.OneSegment.{open-rows}
 use Rattle.refinement.proofs.LevelOne.{level-one}
 use Rattle.refinement.proofs.SkipWalk.{Reaches, walk-reaches}
 
-both-true : (a b : Bool) → (a && b) ≡ true → (a ≡ true) × (b ≡ true)
+pub both-true : (a b : Bool) → (a && b) ≡ true → (a ≡ true) × (b ≡ true)
 both-true true b e = (refl, e)
 both-true false b e = absurd (let z : _≡_ {A = ℕ} 0 1 = cc in omega arith)
 
