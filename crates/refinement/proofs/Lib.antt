@@ -25,3 +25,10 @@ pub mod Records
 pub mod OneSegment
 pub mod ReadBack
 pub mod EachCall
+pub mod PassedOver
+pub mod Pointers
+pub mod LevelOne
+pub mod SkipWalk
+pub mod SearchFound
+pub mod SearchStep
+pub mod TallyFound

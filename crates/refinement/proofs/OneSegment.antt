@@ -92,7 +92,7 @@ module _ (t1 t2 : ℕ) (k1 k2 : ℤ) where
 
   module _ (ok1 : loadOk k1 ≡ true) (ok2 : loadOk k2 ≡ true) where
     -- a lift is wanted by its stored load and its time
-    wanted-is : (l : Lift) → loadOk (l .load) ≡ true
+    pub wanted-is : (l : Lift) → loadOk (l .load) ≡ true
         → (within (stored k1) (stored k2) (stored (l .load)) && timely (queryOf t1 t2 k1 k2) (l .time)) ≡ wanted t1 t2 k1 k2 l
     wanted-is l ok =
         rw (stored-le k1 (l .load) ok1 ok, stored-le (l .load) k2 ok ok2)

@@ -42,7 +42,7 @@ after-log h c = go (eqb (Paper.numberOf (h .log) c) 0) c
     go true (Paper.search k t1 t2 k1 k2 rows) = refl
 
 -- the tests that an accepted call has passed
-first-zero : (n : ℕ) (t : Bool) (rest : ℕ) → Paper.ground (suc n) t rest ≡ 0 → (t ≡ false) × (rest ≡ 0)
+pub first-zero : (n : ℕ) (t : Bool) (rest : ℕ) → Paper.ground (suc n) t rest ≡ 0 → (t ≡ false) × (rest ≡ 0)
 first-zero n true rest e = absurd (omega arith)
 first-zero n false rest e = (refl, e)
 
@@ -55,7 +55,7 @@ by-number n m h a w e f = rw e (go (eqb m 0) refl)
     go true q = rw (f (eqb-true m 0 q))
     go false q = refl
 
-passed : (b : Bool) → not b ≡ false → b ≡ true
+pub passed : (b : Bool) → not b ≡ false → b ≡ true
 passed true e = refl
 passed false e = cc
 

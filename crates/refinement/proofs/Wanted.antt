@@ -1,7 +1,7 @@
 -- What a search wants of lists of lifts: part by part, and nothing of lifts that are all before or all after its times. Assumes nothing.
 use mathlib.Core.Path.{_≡_, refl, sym, ap, ap₂, _∙_}
 use mathlib.Core.Bool.{Bool, true, false, cond, _&&_}
-use mathlib.Core.List.{List, [], _∷_, _++_, append-assoc}
+use mathlib.Core.List.{List, [], _∷_, _++_, map, append-assoc}
 use Prim.Native.Nat.{ℕ, zero, suc, _+_, _≤_, _<_}
 use native.Mathlib.Omega.{arith}
 use lib.Dec.{leb}
@@ -17,6 +17,10 @@ use Rattle.refinement.proofs.InBounds.{times-up, segments-up}
 -- what `getD` gives past the last lift
 abbrev pub noLift : Lift
 noLift = record { time = 0; load = pos 0; note = [] }
+
+pub map-append : {A B : Type 0} (f : A → B) (a b : List A) → map f (a ++ b) ≡ map f a ++ map f b
+map-append f [] b = refl
+map-append {B = B} f (x ∷ a) b = ap {B = List B} (λ t. f x ∷ t) (map-append f a b)
 
 pub joined-append : (a b : List (List Lift)) → joined (a ++ b) ≡ joined a ++ joined b
 unfolding joined

@@ -1,0 +1,208 @@
+-- Level 1 from a segment on gives the rows of all wanted lifts up to it, older ones first: each pointer leads to the segment before, and where a start
+-- ≤ t1 has been done all older lifts are earlier. By induction on the steps. Assumes nothing.
+use mathlib.Core.Path.{_≡_, refl, sym, ap, ap₂, _∙_}
+use mathlib.Core.Bool.{Bool, true, false, cond, not, _&&_, _||_}
+use mathlib.Core.Option.{Option, none, some}
+use mathlib.Core.List.{List, [], _∷_, _++_, map, append-assoc, append-nil}
+use Prim.Native.Nat.{ℕ, zero, suc, _+_, _-_, _*_, _≤_, _<_}
+use native.Mathlib.Omega.{arith}
+use lib.Dec.{eqb, leb, ltb}
+use lib.IntN.{ℤ}
+use lib.ListN.{length, getD, length-append}
+use borrow.Author.Tests.{leb-true, lt-ltb, le-ltb}
+use Rattle.codec.specs.Area.{part}
+use Rattle.flash.specs.Chip.{slotOf, pageOf, pagesOf, erasedPage}
+use Rattle.lift.specs.Limits.{loadOk, stored}
+use Rattle.bloom.specs.Pages.{sectionCount, segmentSections, bloomPage}
+use Rattle.skiplist.specs.declared.Pointer.{Pointer}
+use Rattle.skiplist.specs.Skip as Skip
+use Rattle.segment.specs.declared.Header.{Header}
+use Rattle.segment.proofs.HeaderRead.{headerOf}
+use Rattle.segment.proofs.ReadBack.{pages-first}
+use Rattle.walk.specs.declared.Closed.{Closed}
+use Rattle.walk.specs.declared.Cursor.{Cursor}
+use Rattle.walk.specs.declared.Query.{Query}
+use Rattle.walk.specs.declared.Step.{Step}
+use Rattle.walk.specs.declared.Step.the-variants.{End, Damage, Pass, Visit}
+use Rattle.walk.specs.Seek.{headerAt}
+use Rattle.walk.specs.Visit.{isPassed, cursorAfter, closedOf, advanceOf, closedRows}
+use Rattle.search.specs.Found.{joinRows, rowsFrom}
+use Rattle.store.specs.Queries.{queryOf}
+use Rattle.paper_log.specs.Log.{Lift, rowOf, codes, among, joined}
+use Rattle.refinement.specs.Segments as S
+use Rattle.refinement.specs.Image.{History, oldestHeads, nandImage, liveOf}
+use Rattle.refinement.proofs.Good.{Good}
+use Rattle.refinement.proofs.Lengths.{length-liftArea, length-codes}
+use Rattle.refinement.proofs.PageLengths.{length-nand, length-area, length-pageImage, page-of-nand}
+use Rattle.refinement.proofs.Slots.{slot-below}
+use Rattle.refinement.proofs.InBounds.{start-below}
+use Rattle.refinement.proofs.PageFrom.{headsAt}
+use Rattle.refinement.proofs.Retained.{Among, facts, built, retained-page, retained-header}
+use Rattle.refinement.proofs.Wanted.{map-append, joined-append, among-append, early-all}
+use Rattle.refinement.proofs.Records.{pages-are}
+use Rattle.refinement.proofs.OneSegment.{closed-rows}
+use Rattle.refinement.proofs.PassedOver.{passed-none}
+use Rattle.refinement.proofs.Pointers.{pointerTo, Leads, dead, to, leads-node, live-retained}
+
+-- ---- a retained closed segment, as a search reads it
+
+module _ (h : History) (g : Good h) (before : List (List Lift)) (ls : List Lift) (after : List (List Lift))
+    (is : h .log .closed ≡ before ++ (ls ∷ after)) where
+  abbrev serial : ℕ
+  serial = h .log .oldest + length before
+
+  abbrev slot : ℕ
+  slot = slotOf serial (h .log .slots)
+
+  abbrev heads : List Pointer
+  heads = headsAt (h .log .slots) (h .log .oldest) before (oldestHeads h)
+
+  abbrev header : Header
+  header = headerOf (S.closingOf serial ls heads) true
+
+  there : slot < h .log .slots
+  there = slot-below (h .log .slots) serial (omega (arith, g .least))
+
+  room : slot * 16384 + 16384 ≤ length (nandImage h)
+  room = omega (arith, length-nand h g, there)
+
+  lift-pages : pagesOf (nandImage h) slot 0 20 ≡ S.liftArea ls
+  unfolding S.closedPage
+  lift-pages =
+      let b = built h g before ls after is in
+      pages-are (nandImage h) (S.liftArea ls) slot 0 20 room (omega arith) (length-liftArea ls (b .lifts) (b .few)) (λ i l.
+      let z : 0 + i ≡ i = omega arith in
+      rw z (retained-page h g before ls after is i (omega arith) ∙ rw (lt-ltb i 20 l)))
+
+  tree-pages : pagesOf (nandImage h) slot 20 9 ≡ S.treeArea ls
+  unfolding S.closedPage
+  tree-pages =
+      pages-are (nandImage h) (S.treeArea ls) slot 20 9 room (omega arith) (length-area ls) (λ i l.
+      let z : 20 + i - 20 ≡ i = omega arith in
+      retained-page h g before ls after is (20 + i) (omega arith)
+      ∙ rw (le-ltb (20 + i) 20 (omega arith), lt-ltb (20 + i) 29 (omega arith), z))
+
+  bloom-pages : pagesOf (nandImage h) slot 29 2 ≡ bloomPage (segmentSections (codes ls)) 0 ++ pageOf (nandImage h) slot 30
+  unfolding S.closedPage
+  bloom-pages =
+      pages-first (nandImage h) slot 29 1
+      ∙ ap (λ (t : List ℕ). t ++ pageOf (nandImage h) slot 30) (retained-page h g before ls after is 29 (omega arith))
+
+  second-page : 5 ≤ sectionCount (length (codes ls)) → pageOf (nandImage h) slot 30 ≡ bloomPage (segmentSections (codes ls)) 1
+  unfolding S.closedPage
+  second-page l =
+      let c = length-codes ls in
+      retained-page h g before ls after is 30 (omega arith) ∙ rw (lt-ltb 256 (length ls) (omega arith))
+
+  module _ (t1 t2 : ℕ) (k1 k2 : ℤ) (ok1 : loadOk k1 ≡ true) (ok2 : loadOk k2 ≡ true) where
+    visited : closedRows (nandImage h) (closedOf slot header) (queryOf t1 t2 k1 k2) ≡ some (map rowOf (among t1 t2 k1 k2 ls))
+    unfolding S.closingOf
+    visited =
+        closed-rows t1 t2 k1 k2 ok1 ok2 ls (built h g before ls after is) (nandImage h) (closedOf slot header) lift-pages tree-pages refl refl
+
+    passed : isPassed (nandImage h) slot header (queryOf t1 t2 k1 k2) ≡ true → among t1 t2 k1 k2 ls ≡ []
+    unfolding S.closingOf
+    passed =
+        passed-none t1 t2 k1 k2 ok1 ok2 ls (built h g before ls after is) (nandImage h) slot header refl refl refl (pageOf (nandImage h) slot 30)
+        (omega (arith, ap length (page-of-nand h g slot 30 there (omega arith)), length-pageImage h g slot 30)) second-page bloom-pages
+
+-- ---- from segment to segment
+
+module _ (h : History) (g : Good h) (t1 t2 : ℕ) (k1 k2 : ℤ) (ok1 : loadOk k1 ≡ true) (ok2 : loadOk k2 ≡ true) where
+  abbrev advanced : Cursor → Step
+  advanced c = advanceOf (nandImage h) (h .log .slots) (liveOf (h .log)) (queryOf t1 t2 k1 k2) c
+
+  abbrev wantedIn : List (List Lift) → List Lift
+  wantedIn b = among t1 t2 k1 k2 (joined b)
+
+  -- what n steps find from a cursor behind the segments b
+  abbrev Finds : ℕ → Type 0
+  Finds n = (b rest : List (List Lift)) → h .log .closed ≡ b ++ rest → length b < n → (c : Cursor) → c .before ≡ h .log .oldest + length b
+      → Leads h b 0 (c .next) → (c .last ≡ true → wantedIn b ≡ [])
+      → rowsFrom n (nandImage h) (h .log .slots) (liveOf (h .log)) (queryOf t1 t2 k1 k2) c ≡ some (map rowOf (wantedIn b))
+
+  ends : (c : Cursor) → (c .last || not (Skip.isLive (c .next) (liveOf (h .log)))) ≡ true → advanced c ≡ End
+  unfolding advanceOf
+  ends c e = rw e
+
+  or-right : (a b : Bool) → b ≡ true → (a || b) ≡ true
+  or-right true b e = refl
+  or-right false b e = e
+
+  module _ (n : ℕ) (before : List (List Lift)) (ls : List Lift) (after : List (List Lift)) (is : h .log .closed ≡ before ++ (ls ∷ after)) where
+    abbrev head : Header
+    head = header h g before ls after is
+
+    goes : (c : Cursor) → c .last ≡ false → c .next ≡ pointerTo h before ls → h .log .oldest + length before < c .before
+        → advanced c ≡ cond (isPassed (nandImage h) (slot h g before ls after is) head (queryOf t1 t2 k1 k2))
+        (Pass (cursorAfter head (queryOf t1 t2 k1 k2))) (Visit (closedOf (slot h g before ls after is) head) (cursorAfter head (queryOf t1 t2 k1 k2)))
+    unfolding advanceOf
+    goes c e p l = rw (e, p, live-retained h g before ls after is, retained-header h g before ls after is (c .before) l)
+
+    parted : (b : List (List Lift)) → b ≡ before ++ (ls ∷ []) → wantedIn b ≡ wantedIn before ++ among t1 t2 k1 k2 ls
+    unfolding joined
+    parted b e =
+        ap wantedIn e ∙ ap (among t1 t2 k1 k2) (joined-append before (ls ∷ [])) ∙ among-append t1 t2 k1 k2 (joined before) (ls ++ [])
+        ∙ ap (λ (x : List Lift). wantedIn before ++ among t1 t2 k1 k2 x) (append-nil ls)
+
+    onward : Finds n → length before < n
+        → rowsFrom n (nandImage h) (h .log .slots) (liveOf (h .log)) (queryOf t1 t2 k1 k2) (cursorAfter head (queryOf t1 t2 k1 k2))
+        ≡ some (map rowOf (wantedIn before))
+    unfolding S.closingOf
+    onward f l =
+        let a = facts h g before ls after is in
+        f before (ls ∷ after) is l (cursorAfter head (queryOf t1 t2 k1 k2)) refl (leads-node h g before (h .log .oldest + length before) 0) (λ e.
+        early-all t1 t2 k1 k2 (a .earlier) (omega (arith, start-below ls (a .own) (a .some-lift), leb-true (S.startTime ls) t1 e)))
+
+  -- what comes of a step, with n to go
+  abbrev took : ℕ → Step → Option (List (List ℕ))
+  took n s =
+      elim s [
+        | End ↦ some []
+        | Damage ↦ none
+        | Pass d ↦ rowsFrom n (nandImage h) (h .log .slots) (liveOf (h .log)) (queryOf t1 t2 k1 k2) d
+        | Visit s d ↦
+            joinRows (rowsFrom n (nandImage h) (h .log .slots) (liveOf (h .log)) (queryOf t1 t2 k1 k2) d) (closedRows (nandImage h) s (queryOf t1 t2 k1 k2))
+      ]
+
+  first-of : (n : ℕ) (c : Cursor) → rowsFrom (suc n) (nandImage h) (h .log .slots) (liveOf (h .log)) (queryOf t1 t2 k1 k2) c ≡ took n (advanced c)
+  unfolding rowsFrom
+  first-of n c = refl
+
+  -- a segment and those before it
+  taken : (n : ℕ) (before : List (List Lift)) (ls : List Lift) (after : List (List Lift)) (is : h .log .closed ≡ before ++ (ls ∷ after))
+      → Finds n → length before < n → (c : Cursor) → c .last ≡ false → c .next ≡ pointerTo h before ls → h .log .oldest + length before < c .before
+      → took n (advanced c) ≡ some (map rowOf (wantedIn before ++ among t1 t2 k1 k2 ls))
+  taken n before ls after is f l c e p s =
+      rw (goes n before ls after is c e p s) (go (isPassed (nandImage h) (slot h g before ls after is) hd (queryOf t1 t2 k1 k2)) refl)
+    where
+      hd : Header
+      hd = header h g before ls after is
+
+      go : (t : Bool) → isPassed (nandImage h) (slot h g before ls after is) (header h g before ls after is) (queryOf t1 t2 k1 k2) ≡ t
+          → took n (cond t (Pass (cursorAfter (header h g before ls after is) (queryOf t1 t2 k1 k2)))
+          (Visit (closedOf (slot h g before ls after is) (header h g before ls after is)) (cursorAfter (header h g before ls after is) (queryOf t1 t2 k1 k2))))
+          ≡ some (map rowOf (wantedIn before ++ among t1 t2 k1 k2 ls))
+      go true q =
+          rw (onward n before ls after is f l, passed h g before ls after is t1 t2 k1 k2 ok1 ok2 q, append-nil (wantedIn before))
+      go false q =
+          rw (onward n before ls after is f l, visited h g before ls after is t1 t2 k1 k2 ok1 ok2)
+          (ap some (sym (map-append rowOf (wantedIn before) (among t1 t2 k1 k2 ls))))
+
+  step : (n : ℕ) → Finds n → Finds (suc n)
+  unfolding among joined
+  step n f b rest is l c eb lead last = first-of n c ∙ go (c .last) refl lead
+    where
+      go : (t : Bool) → c .last ≡ t → Leads h b 0 (c .next) → took n (advanced c) ≡ some (map rowOf (wantedIn b))
+      go true e lead = rw (ends c (rw e), last e)
+      go false e (dead d z) = rw (ends c (or-right (c .last) _ (rw d)), z refl)
+      go false e (to before ls after eq z p) =
+          let whole : b ≡ before ++ (ls ∷ []) = eq ∙ ap (λ (x : List (List Lift)). before ++ (ls ∷ x)) (z refl) in
+          let there : h .log .closed ≡ before ++ (ls ∷ rest) = is ∙ ap (λ (x : List (List Lift)). x ++ rest) whole ∙ append-assoc before (ls ∷ []) rest in
+          let m = ap length whole ∙ length-append before (ls ∷ []) in
+          taken n before ls rest there f (omega arith) c e p (omega arith)
+          ∙ ap (λ (x : List Lift). some (map rowOf x)) (sym (parted n before ls rest there b whole))
+
+  pub level-one : (n : ℕ) → Finds n
+  level-one zero = λ b rest is l. absurd (omega arith)
+  level-one (suc n) = step n (level-one n)
