@@ -16,6 +16,7 @@ use Rattle.tree.specs.Plan.{Plan, damaged, noRoom, newRoot, intoBucket, newChil
 use Rattle.tree.specs.Writes.{writesOf, allClear}
 use Rattle.bounds.specs.Grounds.{ground}
 use Rattle.store.specs.declared.State.{State}
+use Rattle.store.proofs.Rows.{twice}
 use Rattle.store.specs.World.{World, world, closeWorld, movedOn, fillsPage}
 use Rattle.store.specs.Calls as Calls
 use Rattle.store.specs.Calls.{roomWorld, norClear, dropDamage, appendDamage, appendUnerased}
@@ -42,10 +43,6 @@ full-is (splitBucket b m side x y) e = absurd (false≢true e)
 both : (d c good clear : Bool) → good ≡ not d → clear ≡ c → (d || not c) ≡ not (good && clear)
 both true c good clear e f = rw e
 both false c good clear e f = rw (e, f)
-
-twice : (b : Bool) → b ≡ not (not b)
-twice true = refl
-twice false = refl
 
 module _ (nand nor : List ℕ) (s : State) (slots : ℕ) (load : ℤ) (p : Plan) (sound : isDamaged p ≡ false) (room : isNoRoom p ≡ false)
     (good clear : Bool) (judged : good ≡ not (dropsFirst s slots && dropDamage (world nand [] s) slots)) (cleared : clear ≡ norClear (world [] nor s) load p) where

@@ -10,6 +10,7 @@ use lib.ListN.{length}
 use borrow.Author.Tests.{lt-leb, le-leb, lt-ltb, leb-true, not-true, not-false}
 use Rattle.bounds.proofs.Within.{and-right}
 use Rattle.flash.specs.Chip.{slotOf, pageOf, slotErased}
+use Rattle.segment.specs.declared.Closing.{Closing}
 use Rattle.segment.specs.declared.Header.{Header}
 use Rattle.segment.specs.Header.{headerPage, headerIn}
 use Rattle.segment.specs.Pages.{pageDue, closePage, closeProgrammed}
@@ -17,15 +18,12 @@ use Rattle.segment.proofs.ClosedPages.{Shaped, page-closed, page-other}
 use Rattle.segment.proofs.Turns.{image-header}
 use Rattle.store.specs.declared.State.{State}
 use Rattle.store.specs.declared.Renewal.{Renewal}
+use Rattle.store.proofs.Rows.{twice}
 use Rattle.store.specs.World.{world, closing, movedOn, closeWorld, dropWorld, withoutOldest}
 use Rattle.store.specs.Calls.{boundsGround, dropDamage, renewal}
 use Rattle.store.specs.Pieces.{dropsFirst, forcedGood, dropDue}
 use Rattle.store.proofs.Grounds.{Standing, standing}
 use Rattle.store.proofs.Slots.{slots-differ, slot-below}
-
-twice : (b : Bool) → b ≡ not (not b)
-twice true = refl
-twice false = refl
 
 -- ---- after a close
 
@@ -42,7 +40,7 @@ module _ (nand nor : List ℕ) (s : State) (slots : ℕ) (stands : boundsGround 
     exactly-held : s .current + 1 ≡ s .oldest + slots
     exactly-held = omega (arith, st .serials .fewer some, st .serials .rising)
 
-    pub forced-reads : (h : Header) → h ≡ headerIn (pageOf (closeProgrammed nand nor (slotOf (s .current) slots) (closing s)) (slotOf (s .oldest + 1) slots) 31) slots (s .current + 1)
+    forced-reads : (h : Header) → h ≡ headerIn (pageOf (closeProgrammed nand nor (slotOf (s .current) slots) (closing s)) (slotOf (s .oldest + 1) slots) 31) slots (s .current + 1)
         → h .good ≡ forcedGood (closeWorld (world nand nor s) slots) slots
     unfolding forcedGood closeWorld movedOn
     forced-reads h e =
@@ -63,7 +61,7 @@ module _ (nand nor : List ℕ) (s : State) (slots : ℕ) (stands : boundsGround 
       }
 
       -- of two slots, it is the slot that is closed
-      pub header-own : slots ≡ 2
+      header-own : slots ≡ 2
           → pageOf (closeProgrammed nand nor (slotOf (s .current) slots) (closing s)) (slotOf (s .oldest + 1) slots) 31 ≡ headerPage (closing s)
       unfolding pageDue
       header-own two =
@@ -78,13 +76,23 @@ module _ (nand nor : List ℕ) (s : State) (slots : ℕ) (stands : boundsGround 
           due = refl
 
       -- of more, it is another
-      pub header-other : (slots ≡ 2 → ⊥)
+      header-other : (slots ≡ 2 → ⊥)
           → pageOf (closeProgrammed nand nor (slotOf (s .current) slots) (closing s)) (slotOf (s .oldest + 1) slots) 31 ≡ pageOf nand (slotOf (s .oldest + 1) slots) 31
       header-other more =
           let least : 1 ≤ slots = omega (arith, st .chips .least) in
           page-other nor (closing s) shaped slots (slotOf (s .current) slots) (slot-below slots (s .current) least) nand (st .chips .nand-size)
           (slotOf (s .oldest + 1) slots) 31 (slot-below slots (s .oldest + 1) least) (omega arith)
           (slots-differ slots (s .oldest + 1) (s .current) (omega arith) (omega (arith, exactly-held, st .chips .least, more)) (omega (arith, exactly-held)))
+
+      -- what is read before anything is written decides
+      pub forced-own : (k : Closing) (page : List ℕ) (h : Header) → slots ≡ 2 → k ≡ closing s → page ≡ headerPage k
+          → h ≡ headerIn page slots (s .current + 1) → h .good ≡ forcedGood (closeWorld (world nand nor s) slots) slots
+      forced-own k page h two e f g =
+          forced-reads h (g ∙ ap (λ (t : List ℕ). headerIn t slots (s .current + 1)) (f ∙ ap headerPage e ∙ sym (header-own two)))
+
+      pub forced-other : (h : Header) → (slots ≡ 2 → ⊥) → h ≡ headerIn (pageOf nand (slotOf (s .oldest + 1) slots) 31) slots (s .current + 1)
+          → h .good ≡ forcedGood (closeWorld (world nand nor s) slots) slots
+      forced-other h more g = forced-reads h (g ∙ ap (λ (t : List ℕ). headerIn t slots (s .current + 1)) (sym (header-other more)))
 
 -- ---- a drop that is due
 

@@ -11,10 +11,11 @@ use Rattle.flash.specs.Chip.{slotOf, pageOf, slotErased, chipErased}
 use Rattle.segment.specs.declared.Header.{Header}
 use Rattle.segment.specs.Header.{headerIn}
 use Rattle.segment.specs.Pages.{closeErased}
-use Rattle.bounds.specs.Grounds.{ground, nandBad, norBad, formatGround}
+use Rattle.bounds.specs.Grounds.{nandBad, norBad, formatGround}
 use Rattle.store.specs.declared.State.{State}
 use Rattle.store.specs.declared.Renewal.{Renewal}
 use Rattle.store.specs.Bounds.{withinBounds}
+use Rattle.store.proofs.Rows.{twice, row-same, row-later}
 use Rattle.store.specs.World.{World, world, closeWorld, dropWorld, withoutOldest, liveAfter}
 use Rattle.store.specs.Calls.{Outcome, outcome, answered, formatted, formatOutcome, boundsGround, stateGround, closeGround, closeOutcome, dropDamage, renewal, dropGround, dropOutcome}
 
@@ -29,26 +30,14 @@ module _ (n g : ℕ) (w after : World) (e : n ≡ g) where
 
 -- ---- grounds 1 to 3, and those after them
 
-module _ (w : World) (slots n : ℕ) (judged : n ≡ boundsGround (w .state) (length (w .nand)) (length (w .nor)) slots) (rest : ℕ) where
-  pub stands-not : (n ≡ 0 → ⊥) → n ≡ stateGround w slots rest
+module _ (w : World) (slots n : ℕ) (judged : n ≡ boundsGround (w .state) (length (w .nand)) (length (w .nor)) slots) (later : ℕ) where
+  pub stands-not : (n ≡ 0 → ⊥) → n ≡ stateGround w slots later
   unfolding boundsGround
-  stands-not h = go (nandBad (length (w .nand)) slots) (norBad (length (w .nor))) (not (withinBounds (w .state) slots)) judged
-    where
-      go : (a b c : Bool) → n ≡ ground 1 a (ground 2 b (ground 3 c 0)) → n ≡ ground 1 a (ground 2 b (ground 3 c rest))
-      go true b c e = e
-      go false true c e = e
-      go false false true e = e
-      go false false false e = absurd (h e)
+  stands-not h = row-same (nandBad (length (w .nand)) slots) (norBad (length (w .nor))) (not (withinBounds (w .state) slots)) n 0 later judged (λ e. absurd (h e))
 
-  pub stands : (m : ℕ) → n ≡ 0 → m ≡ rest → m ≡ stateGround w slots rest
+  pub stands : (m : ℕ) → n ≡ 0 → m ≡ later → m ≡ stateGround w slots later
   unfolding boundsGround
-  stands m h f = go (nandBad (length (w .nand)) slots) (norBad (length (w .nor))) (not (withinBounds (w .state) slots)) judged
-    where
-      go : (a b c : Bool) → n ≡ ground 1 a (ground 2 b (ground 3 c 0)) → m ≡ ground 1 a (ground 2 b (ground 3 c rest))
-      go true b c e = absurd (omega arith)
-      go false true c e = absurd (omega arith)
-      go false false true e = absurd (omega arith)
-      go false false false e = f
+  stands m h f = row-later (nandBad (length (w .nand)) slots) (norBad (length (w .nor))) (not (withinBounds (w .state) slots)) n 0 later judged h m f
 
 -- ---- format
 
@@ -112,11 +101,7 @@ module _ (nand nor : List ℕ) (s : State) (slots n : ℕ) (judged : n ≡ bound
       live = ap (λ (t : Renewal). t .live) found
 
       damage : (b : Bool) → not (r .good) ≡ b → dropDamage w slots ≡ b
-      damage b e = twice (dropDamage w slots) b (sym (ap not good) ∙ e)
-        where
-          twice : (x y : Bool) → not (not x) ≡ y → x ≡ y
-          twice true y f = f
-          twice false y f = f
+      damage b e = twice (dropDamage w slots) ∙ sym (ap not good) ∙ e
 
       pub drop-damaged : not (r .good) ≡ true → answered 10 nand nor s ≡ dropOutcome w slots
       unfolding dropOutcome dropGround
@@ -136,11 +121,7 @@ module _ (nand : List ℕ) (s : State) (slots : ℕ) where
   pub renewal-closed : (h : Header) → s .oldest + 1 < s .current → h ≡ headerIn (pageOf nand (slotOf (s .oldest + 1) slots) 31) slots (s .current)
       → _≡_ {A = Renewal} (record { good = h .good; live = h .start }) (renewal nand s slots)
   unfolding renewal liveAfter
-  renewal-closed h k e = rw (lt-ltb (s .oldest + 1) (s .current) k, ← e, not-not (h .good))
-    where
-      not-not : (b : Bool) → not (not b) ≡ b
-      not-not true = refl
-      not-not false = refl
+  renewal-closed h k e = rw (lt-ltb (s .oldest + 1) (s .current) k, ← e) (ap (λ b. record { good = b; live = h .start }) (twice (h .good)))
 
   module _ (last : s .current ≤ s .oldest + 1) where
     pub renewal-empty : s .count ≡ 0 → _≡_ {A = Renewal} (record { good = true; live = s .next }) (renewal nand s slots)

@@ -25,6 +25,7 @@ use Rattle.bounds.proofs.Within.{and-left, and-right}
 use Rattle.grow.specs.declared.Plan.{Plan}
 use Rattle.grow.specs.Meaning.{meaning, Fitting}
 use Rattle.store.specs.declared.State.{State}
+use Rattle.store.proofs.Rows.{twice}
 use Rattle.store.specs.World.{world, putWorld, stateWith, pageWith, bloomWith, fillsPage, fillsSection}
 use Rattle.store.specs.Calls.{planOf, norClear}
 use Rattle.store.specs.Pieces.{Suits, nandWith, norWith, stateGiven}
@@ -41,10 +42,6 @@ module _ {A : Type 0} (n k : ℕ) (x y : A) where
 -- a test that is asked only at a number
 pub asked : (n k : ℕ) (e r : Bool) → n ≡ k → r ≡ e → r ≡ not (eqb n k && not e)
 asked n k e r h f = rw (eq-eqb n k h, f) (twice e)
-  where
-    twice : (b : Bool) → b ≡ not (not b)
-    twice true = refl
-    twice false = refl
 
 pub unasked : (n k : ℕ) (e : Bool) → (n ≡ k → ⊥) → true ≡ not (eqb n k && not e)
 unasked n k e h = rw (ne-eqb n k h)
@@ -108,11 +105,11 @@ tree-long nor tree e size = omega (arith, ap length e ∙ length-part nor 0 4608
 
 -- ---- NOR bytes due for writing
 
-pub clear-all : (s : State) (nor : List ℕ) (ws : Writes) (load : ℤ) (p : Tree.Plan) (a b : Bool) → ws ≡ writesOf p (s .buckets) (stored load) (s .count)
-    → a ≡ allClear nor ws → b ≡ (not (eqb (s .count % 64) 63) || allOnes (part nor (4608 + s .count / 64 * 128) 128))
-    → (a && b) ≡ norClear (world [] nor s) load p
+pub clear-all : (s : State) (nor : List ℕ) (ws : Writes) (code : ℕ) (load : ℤ) (p : Tree.Plan) (a b : Bool) → code ≡ stored load
+    → ws ≡ writesOf p (s .buckets) code (s .count) → a ≡ allClear nor ws
+    → b ≡ (not (eqb (s .count % 64) 63) || allOnes (part nor (4608 + s .count / 64 * 128) 128)) → (a && b) ≡ norClear (world [] nor s) load p
 unfolding norClear
-clear-all s nor ws load p a b e f g = rw (f, g, e)
+clear-all s nor ws code load p a b k e f g = rw (f, g, e, k)
 
 -- ---- the lift
 
@@ -158,9 +155,10 @@ pub counted-made : (s : State) (time : ℕ) (load : ℤ) (buckets : ℕ) (page s
 unfolding stateGiven
 counted-made s time load buckets page section loads low high start live a b c d e = rw (a, b, c, d, e)
 
-pub put-made : (nand nor nand' nor' : List ℕ) (s s' : State) (slots time : ℕ) (load : ℤ) (note : List ℕ) (p : Tree.Plan) (buckets : ℕ) (page section : List ℕ)
-    → nand' ≡ nandWith nand s slots time load note → nor' ≡ norWith nor s load p → page ≡ cond (fillsPage s) erasedPage (pageWith s time load note)
-    → section ≡ cond (fillsSection s) emptySection (bloomWith s load) → buckets ≡ bucketsAfter p (s .buckets)
-    → s' ≡ stateGiven s time load buckets page section → world nand' nor' s' ≡ putWorld (world nand nor s) slots time load note p
+pub put-made : (nand nor nand' nor' : List ℕ) (s s' : State) (slots time : ℕ) (z load : ℤ) (note : List ℕ) (p : Tree.Plan) (buckets : ℕ) (page section : List ℕ)
+    → z ≡ load → nand' ≡ nandWith nand s slots time load note → nor' ≡ norWith nor s load p
+    → page ≡ cond (fillsPage s) erasedPage (pageWith s time load note) → section ≡ cond (fillsSection s) emptySection (bloomWith s load)
+    → buckets ≡ bucketsAfter p (s .buckets) → s' ≡ stateGiven s time z buckets page section
+    → world nand' nor' s' ≡ putWorld (world nand nor s) slots time load note p
 unfolding putWorld stateWith nandWith norWith stateGiven
-put-made nand nor nand' nor' s s' slots time load note p buckets page section a b c d e f = rw (a, b, f, c, d, e)
+put-made nand nor nand' nor' s s' slots time z load note p buckets page section k a b c d e f = rw (a, b, f, c, d, e, k)

@@ -4,7 +4,6 @@ use mir.ValLaws.{toZ-ofZ}
 use Rattle.lift.specs.Limits.{stored}
 use Rattle.lift.proofs.Codes.{within-limits}
 use Rattle.grow.specs.Meaning.{meaning}
-use Rattle.store.specs.Pieces.{stateGiven}
 use Rattle.store.proofs.Parts.{put-made}
 use native.Mathlib.Omega.{arith}
 use borrow.Author.Needs.{needs}
@@ -44,9 +43,8 @@ returns c =
     let code = c .before .before .before .before .before .before .before .before .before .before .stored .ensures ∙ ap stored load in
     let r = c .before .before .before .before .before .before .before .before .recorded .ensures in
     let i = c .before .before .before .before .indexed .ensures in
-    put-made (a .nand .now) (a .nor .now) _ _ (a .self) _ (a .slots) (a .time) (a .load) _ (meaning (a .p)) _ _ _ (r .0 (a .load) code) (i .0 (a .load) code)
-    (r .1 (a .load) code) (i .1 (a .load) code) (c .before .buckets-after .ensures)
-    (c .counted .ensures ∙ ap (λ z. stateGiven (a .self) (a .time) z (c .before .buckets-after .result) (c .before .before .before .before .before .before .before .before .recorded .result) (c .before .before .before .before .indexed .result)) load)
+    put-made (a .nand .now) (a .nor .now) _ _ (a .self) _ (a .slots) (a .time) _ (a .load) _ (meaning (a .p)) _ _ _ load (r .0 (a .load) code)
+    (i .0 (a .load) code) (r .1 (a .load) code) (i .1 (a .load) code) (c .before .buckets-after .ensures) (c .counted .ensures)
 
 pub put-spec : {M : Type 1} → statement M
 put-spec =
