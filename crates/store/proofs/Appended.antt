@@ -1,4 +1,5 @@
--- Each return of `append` is what the definition gives there: grounds 1 to 8, then 10 and 11, then the world that the pieces leave one after the
+-- Each return of `append` is what the definition gives there: grounds 1 to 8, then 10 and 11, then the world that the pieces
+-- leave one after the
 -- other. Assumes nothing.
 use mathlib.Core.Path.{_≡_, refl, sym, ap, subst, _∙_}
 use mathlib.Core.Bool.{Bool, true, false, cond, not}
@@ -31,21 +32,27 @@ use Rattle.store.proofs.Outcomes.{refuses, accepts, stands}
 module _ (s : State) (nand nor slots time : ℕ) (load : ℤ) (n : ℕ) (judged : n ≡ boundsGround s nand nor slots) where
   pub entry-bounds : (n ≡ 0 → ⊥) → n ≡ entryGround s nand nor slots time load
   unfolding entryGround boundsGround
-  entry-bounds h = row-same (nandBad nand slots) (norBad nor) (not (withinBounds s slots)) n 0 (liftGround time load (s .next) (s .current) 0) judged (λ e. absurd (h e))
+  entry-bounds h =
+      row-same (nandBad nand slots) (norBad nor) (not (withinBounds s slots)) n 0
+      (liftGround time load (s .next) (s .current) 0) judged (λ e. absurd (h e))
 
   pub entry-lift : (m : ℕ) → n ≡ 0 → m ≡ liftGround time load (s .next) (s .current) 0 → m ≡ entryGround s nand nor slots time load
   unfolding entryGround boundsGround
-  entry-lift m h f = row-later (nandBad nand slots) (norBad nor) (not (withinBounds s slots)) n 0 (liftGround time load (s .next) (s .current) 0) judged h m f
+  entry-lift m h f =
+      row-later (nandBad nand slots) (norBad nor) (not (withinBounds s slots)) n 0
+      (liftGround time load (s .next) (s .current) 0) judged h m f
 
 -- where none of them holds
 pub record Entered (s : State) (nand nor slots time : ℕ) (load : ℤ) : Type 0 where
   pub bounds : boundsGround s nand nor slots ≡ 0
   pub lift : liftGround time load (s .next) (s .current) 0 ≡ 0
 
-pub entered : (s : State) (nand nor slots time : ℕ) (load : ℤ) → entryGround s nand nor slots time load ≡ 0 → Entered s nand nor slots time load
+pub entered : (s : State) (nand nor slots time : ℕ) (load : ℤ) → entryGround s nand nor slots time load ≡ 0
+    → Entered s nand nor slots time load
 unfolding entryGround boundsGround
 entered s nand nor slots time load e =
-    let r = row-none (nandBad nand slots) (norBad nor) (not (withinBounds s slots)) (liftGround time load (s .next) (s .current) 0) e in
+    let r = row-none (nandBad nand slots) (norBad nor) (not (withinBounds s slots))
+    (liftGround time load (s .next) (s .current) 0) e in
     record { bounds = r .0; lift = r .1 }
 
 -- of the load as passed
@@ -76,7 +83,8 @@ pub record Droppable (s : State) : Type 0 where
   pub first : 1 ≤ s .oldest
   pub rising : s .oldest ≤ s .current
 
-module _ (nand nor : List ℕ) (s : State) (slots : ℕ) (st : Standing s (length nand) (length nor) slots) (p : Plan) (suits : Suits s p) where
+module _ (nand nor : List ℕ) (s : State) (slots : ℕ) (st : Standing s (length nand) (length nor) slots) (p : Plan)
+    (suits : Suits s p) where
   abbrev before : World
   before = world nand nor s
 
@@ -131,19 +139,25 @@ due-nor : (nand nor nand' : List ℕ) (s s' : State) (slots : ℕ) → world nan
 unfolding dropDue dropWorld liveAfter
 due-nor nand nor nand' s s' slots e = go (dropsFirst s slots) (ap (λ (t : World). world (t .nand) nor (t .state)) e)
   where
-    go : (b : Bool) → world nand' nor s' ≡ world (cond b (dropWorld (world nand [] s) slots) (world nand [] s) .nand) nor (cond b (dropWorld (world nand [] s) slots) (world nand [] s) .state)
+    bare : Bool → World
+    bare b = cond b (dropWorld (world nand [] s) slots) (world nand [] s)
+
+    go : (b : Bool) → world nand' nor s' ≡ world (bare b .nand) nor (bare b .state)
         → world nand' nor s' ≡ cond b (dropWorld (world nand nor s) slots) (world nand nor s)
     go true f = f
     go false f = f
 
 -- one after the other
-pub carried-made : (w : World) (nand nor nand' nand'' nor'' : List ℕ) (s s' s'' : State) (slots time : ℕ) (z load : ℤ) (note : List ℕ) (p : Tree.Plan)
+pub carried-made : (w : World) (nand nor nand' nand'' nor'' : List ℕ) (s s' s'' : State) (slots time : ℕ) (z load : ℤ)
+    (note : List ℕ) (p : Tree.Plan)
     → z ≡ load → world nand nor s ≡ roomWorld w slots p → world nand' [] s' ≡ dropDue (world nand [] s) slots
-    → world nand'' nor'' s'' ≡ putWorld (world nand' nor s') slots time z note p → world nand'' nor'' s'' ≡ carriedOut w slots time load note p
+    → world nand'' nor'' s'' ≡ putWorld (world nand' nor s') slots time z note p
+    → world nand'' nor'' s'' ≡ carriedOut w slots time load note p
 unfolding carriedOut
 carried-made w nand nor nand' nand'' nor'' s s' s'' slots time z load note p k e f g =
     g ∙ ap (λ (t : ℤ). putWorld (world nand' nor s') slots time t note p) k
-    ∙ ap (λ (t : World). putWorld t slots time load note p) (due-nor nand nor nand' s s' slots f ∙ ap (λ (t : World). dropDue t slots) e)
+    ∙ ap (λ (t : World). putWorld t slots time load note p) (due-nor nand nor nand' s s' slots f
+    ∙ ap (λ (t : World). dropDue t slots) e)
 
 -- ---- the number
 
@@ -158,7 +172,9 @@ module _ (nand nor : List ℕ) (s : State) (slots time : ℕ) (load : ℤ) (note
 
   early : (n ≡ 0 → ⊥) → n ≡ appendGround w slots time load
   unfolding appendGround entryGround more laterGround
-  early h = row-same (nandBad (length nand) slots) (norBad (length nor)) (not (withinBounds s slots)) n _ _ judged (λ e. e ∙ sym (lift-then time load (s .next) (s .current) more ∙ past e))
+  early h =
+      row-same (nandBad (length nand) slots) (norBad (length nor)) (not (withinBounds s slots)) n _ _ judged
+      (λ e. e ∙ sym (lift-then time load (s .next) (s .current) more ∙ past e))
     where
       past : n ≡ liftGround time load (s .next) (s .current) 0
           → cond (eqb (liftGround time load (s .next) (s .current) 0) 0) more (liftGround time load (s .next) (s .current) 0)
@@ -174,20 +190,24 @@ module _ (nand nor : List ℕ) (s : State) (slots time : ℕ) (load : ℤ) (note
     unfolding appendGround more laterGround
     number =
         let e = entered s (length nand) (length nor) slots time load (sym judged ∙ zero) in
-        stands w slots 0 (sym (e .bounds)) _ m refl (later ∙ by-plan ∙ sym (lift-then time load (s .next) (s .current) more ∙ past (e .lift)))
+        stands w slots 0 (sym (e .bounds)) _ m refl (later ∙ by-plan
+        ∙ sym (lift-then time load (s .next) (s .current) more ∙ past (e .lift)))
       where
         by-plan : laterGround w slots load p ≡ more
         by-plan = rw planned
 
         past : liftGround time load (s .next) (s .current) 0 ≡ 0
-            → cond (eqb (liftGround time load (s .next) (s .current) 0) 0) more (liftGround time load (s .next) (s .current) 0) ≡ more
+            → cond (eqb (liftGround time load (s .next) (s .current) 0) 0) more
+            (liftGround time load (s .next) (s .current) 0) ≡ more
         past f = rw f
 
     pub append-later : (m ≡ 0 → ⊥) → answered m nand nor s ≡ appendOutcome w slots time load note
     unfolding appendOutcome
     append-later h = refuses m _ w (appendWorld w slots time load note) number h
 
-    pub append-done : (nand' nor' : List ℕ) (s' : State) (z : ℤ) → z ≡ load → m ≡ 0 → world nand' nor' s' ≡ carriedOut w slots time z note p
+    pub append-done : (nand' nor' : List ℕ) (s' : State) (z : ℤ) → z ≡ load → m ≡ 0
+        → world nand' nor' s' ≡ carriedOut w slots time z note p
         → answered 0 nand' nor' s' ≡ appendOutcome w slots time load note
     unfolding appendOutcome appendWorld carriedOut dropDue Calls.dropsFirst
-    append-done nand' nor' s' z k h e = accepts m _ w (appendWorld w slots time load note) number (world nand' nor' s') h (rw (planned, k) at e)
+    append-done nand' nor' s' z k h e =
+        accepts m _ w (appendWorld w slots time load note) number (world nand' nor' s') h (rw (planned, k) at e)

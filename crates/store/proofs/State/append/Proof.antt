@@ -19,7 +19,8 @@ entry-ground-requires c κs = search needs
 
 -- what `entry_ground` judges, of the load itself
 judged : (c : tie.After-entry-ground)
-    → let a = c .before .before .before .args in c .entry-ground .result ≡ entryGround (a .self) (length (a .nand .now)) (length (a .nor .now)) (a .slots) (a .time) (a .load)
+    → let a = c .before .before .before .args in c .entry-ground .result ≡ entryGround (a .self) (length (a .nand .now))
+    (length (a .nor .now)) (a .slots) (a .time) (a .load)
 judged c =
     let s = c .before .before .before in
     entry-of _ _ _ _ _ _ (s .args .load) _ (toZ-ofZ w32 (s .args .load) (s .fits .load)) (c .entry-ground .ensures)
@@ -34,10 +35,12 @@ zero : (c : tie.Else1) → c .before .entry-ground .result ≡ 0
 zero c = omega (arith, c .if1 .left)
 
 enters : (c : tie.Else1)
-    → let a = c .before .before .before .before .args in Entered (a .self) (length (a .nand .now)) (length (a .nor .now)) (a .slots) (a .time) (a .load)
+    → let a = c .before .before .before .before .args in Entered (a .self) (length (a .nand .now)) (length (a .nor .now))
+    (a .slots) (a .time) (a .load)
 enters c = entered _ _ _ _ _ _ (sym (judged (c .before)) ∙ zero c)
 
-lifts : (c : tie.Else1) → let a = c .before .before .before .before .args in Liftable (a .time) (a .load) (a .self .next) (a .self .current)
+lifts : (c : tie.Else1) → let a =
+    c .before .before .before .before .args in Liftable (a .time) (a .load) (a .self .next) (a .self .current)
 lifts c = lift-within _ _ _ _ (enters c .lift)
 
 coded : (c : tie.After-stored) → c .stored .result ≡ stored (c .before .before .before .before .before .args .load)
@@ -70,7 +73,8 @@ returns-2 c =
     let n = c .before .before .before .before .before .before .before in
     let k = coded (c .before .before .before .before .before .before) in
     let a = c .before .before .before .before .before .before .before .before .before .before .before .args in
-    append-later (a .nand .now) (a .nor .now) (a .self) (a .slots) (a .time) (a .load) _ _ (judged (n .before)) (zero n) (meaning (c .before .before .before .before .plan .result))
+    append-later (a .nand .now) (a .nor .now) (a .self) (a .slots) (a .time) (a .load) _ _ (judged (n .before)) (zero n)
+    (meaning (c .before .before .before .before .plan .result))
     (c .before .before .before .before .plan .ensures .0 (a .load) k) _ (c .before .blocked .ensures (a .load) k) (c .if2 .taken)
 
 carried-out-requires : tie.Need-carried-out-requires
@@ -94,9 +98,12 @@ returns-3 c =
     let s = c .before .before .before .before .before .before .before .before .before .before .before .before .before .before .before .before .before .before in
     let a = s .args in
     let p = c .before .before .before .before .before .before .before .before .before .before .before .plan in
-    append-done (a .nand .now) (a .nor .now) (a .self) (a .slots) (a .time) (a .load) (a .note) _ (judged (n .before)) (zero n) (meaning (p .result))
-    (p .ensures .0 (a .load) k) _ (c .before .before .before .before .before .before .before .before .blocked .ensures (a .load) k) _ _ _ _ (toZ-ofZ w32 (a .load) (s .fits .load))
-    (omega (arith, c .before .before .before .before .before .before .before .if2 .left)) (c .before .before .before .before .carried-out .ensures)
+    append-done (a .nand .now) (a .nor .now) (a .self) (a .slots) (a .time) (a .load) (a .note) _ (judged (n .before)) (zero n)
+    (meaning (p .result))
+    (p .ensures .0 (a .load) k) _ (c .before .before .before .before .before .before .before .before .blocked .ensures (a .load) k)
+    _ _ _ _ (toZ-ofZ w32 (a .load) (s .fits .load))
+    (omega (arith, c .before .before .before .before .before .before .before .if2 .left))
+    (c .before .before .before .before .carried-out .ensures)
 
 pub append-spec : {M : Type 1} → statement M
 append-spec =

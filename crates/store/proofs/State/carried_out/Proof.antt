@@ -24,7 +24,8 @@ dropped-first-requires c κs =
     let st = standing _ _ _ _ (s .pre .0 .0) in
     let r = c .before .before .before .before .before .room in
     let after = world (r .last .1 .0) (r .last .1 .1 .0) (r .result) in
-    let d = droppable-there after (roomWorld (world (a .nand .now) (a .nor .now) (a .self)) (a .slots) (meaning (a .p))) (r .ensures)
+    let d = droppable-there after (roomWorld (world (a .nand .now) (a .nor .now) (a .self)) (a .slots) (meaning (a .p)))
+    (r .ensures)
     (droppable-room (a .nand .now) (a .nor .now) (a .self) (a .slots) st (a .p) (s .pre .0 .1)) in
     (r .kept .1 .0 ∙ st .chips .nand-size, omega (arith, st .chips .least), d .first, d .rising)
 
@@ -37,11 +38,19 @@ put-requires c κs =
     let st = standing _ _ _ _ (s .pre .0 .0) in
     let r = o .room in
     let d = f .dropped-first in
-    let ready = ready-there (world (r .last .1 .0) (r .last .1 .1 .0) (r .result)) (roomWorld (world (a .nand .now) (a .nor .now) (a .self)) (a .slots) (meaning (a .p))) (a .p)
+    let ready = ready-there (world (r .last .1 .0) (r .last .1 .1 .0) (r .result))
+    (roomWorld (world (a .nand .now) (a .nor .now) (a .self)) (a .slots) (meaning (a .p))) (a .p)
     (r .ensures)
     (ready-room (a .nand .now) (a .nor .now) (a .self) (a .slots) st (a .p) (s .pre .0 .1)) in
-    let t = ready-there (world (d .last .1 .0) [] (d .result)) _ (a .p) (d .ensures) (ready-due (world (r .last .1 .0) [] (r .result)) (a .slots) (a .p) ready) in (
-      (d .kept .1 .0 ∙ r .kept .1 .0 ∙ st .chips .nand-size, r .kept .1 .1 .0 ∙ st .chips .nor-size, omega (arith, st .chips .least), t .first),
+    let t = ready-there (world (d .last .1 .0) [] (d .result)) _ (a .p) (d .ensures)
+    (ready-due (world (r .last .1 .0) [] (r .result)) (a .slots) (a .p) ready) in (
+      (
+        d .kept .1 .0 ∙ r .kept .1 .0 ∙ st .chips .nand-size,
+        r .kept .1 .1 .0
+            ∙ st .chips .nor-size,
+        omega (arith, st .chips .least),
+        t .first,
+      ),
       ((t .lifts, t .few, t .fits), (s .pre .1 .0, ap loadOk (toZ-ofZ w32 (a .load) (s .fits .load)) ∙ s .pre .1 .1)),
     )
 
@@ -58,7 +67,8 @@ returns c =
     let s = r .before .before .before .before .before in
     let a = s .args in
     carried-made (world (a .nand .now) (a .nor .now) (a .self)) _ _ _ _ _ _ _ _ (a .slots) (a .time) _ (a .load) _ (meaning (a .p))
-    (toZ-ofZ w32 (a .load) (s .fits .load)) (r .room .ensures) (d .dropped-first .ensures) (c .before .before .before .before .put .ensures)
+    (toZ-ofZ w32 (a .load) (s .fits .load)) (r .room .ensures) (d .dropped-first .ensures)
+    (c .before .before .before .before .put .ensures)
 
 pub carried-out-spec : {M : Type 1} → statement M
 carried-out-spec =

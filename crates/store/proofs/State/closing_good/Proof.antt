@@ -65,8 +65,10 @@ returns-2 c =
     let s = c .before .before .before .before .before .before .before .before .before in
     let a = s .args in
     λ nor size.
-    forced-own (a .nand .now) nor (a .self) (a .slots) (s .pre .0) (s .pre .1) size (c .before .before .before .before .before .if1 .left) (heads-four s) (page-size s) (bloom-size s) _ _ _
-    (c .before .before .before .before .if2 .taken) (c .before .before .before .closing .ensures) (c .before .before .header-page .ensures) (c .header-in .ensures)
+    forced-own (a .nand .now) nor (a .self) (a .slots) (s .pre .0) (s .pre .1) size
+    (c .before .before .before .before .before .if1 .left) (heads-four s) (page-size s) (bloom-size s) _ _ _
+    (c .before .before .before .before .if2 .taken) (c .before .before .before .closing .ensures)
+    (c .before .before .header-page .ensures) (c .header-in .ensures)
 
 add-header-of : tie.Need-add-header-of
 add-header-of c =
@@ -83,7 +85,8 @@ returns-3 c =
     let s = c .before .before .before .before .before .before .before in
     let a = s .args in
     λ nor size.
-    forced-other (a .nand .now) nor (a .self) (a .slots) (s .pre .0) (s .pre .1) size (c .before .before .before .if1 .left) (heads-four s) (page-size s) (bloom-size s) _
+    forced-other (a .nand .now) nor (a .self) (a .slots) (s .pre .0) (s .pre .1) size (c .before .before .before .if1 .left)
+    (heads-four s) (page-size s) (bloom-size s) _
     (c .before .before .if2 .left) (c .header-of .ensures)
 
 pub closing-good-spec : {M : Type 1} → statement M

@@ -17,7 +17,8 @@ returns : tie.Need-returns
 returns c =
     let a = c .before .before .before .before .args in
     λ load e.
-    clear-all (a .self) (a .nor .now) _ _ load _ _ _ e (c .before .before .writes-of .ensures .0) (c .before .clear .ensures) (c .section-clear .ensures)
+    clear-all (a .self) (a .nor .now) _ _ load _ _ _ e (c .before .before .writes-of .ensures .0) (c .before .clear .ensures)
+    (c .section-clear .ensures)
 
 pub is-clear-spec : {M : Type 1} → statement M
 is-clear-spec =
