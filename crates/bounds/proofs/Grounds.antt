@@ -1,4 +1,5 @@
--- Each return of `chips_ground`, `lift_ground` and `query_ground` is what the definition gives there, and what a number 0 says. By the tests' facts.
+-- Each return of `chips_ground`, `lift_ground` and `query_ground` is what the definition gives there, and what a number 0 says.
+-- By the tests' facts.
 -- Assumes nothing.
 use mathlib.Core.Path.{_≡_}
 use mathlib.Core.Bool.{Bool, true, false, not, _&&_, _||_}

@@ -77,7 +77,8 @@ module _ (count : ℕ) (old load : ℤ) where
 
 module _ {A : Type 0} where
   -- one more element, as `all` has it
-  pub filled-more : (l all : List A) (i : ℕ) (v d : A) → i < length l → length l ≡ length all → v ≡ getD all i d → take i l ≡ take i all
+  pub filled-more : (l all : List A) (i : ℕ) (v d : A) → i < length l → length l ≡ length all → v ≡ getD all i d
+      → take i l ≡ take i all
       → take (i + 1) (set l i v) ≡ take (i + 1) all
   filled-more l all i v d h same e f =
       let k : i < length all = omega arith in
@@ -109,7 +110,8 @@ pub pushed-early : (loads : List ℤ) (count : ℕ) (load : ℤ) → count < 13 
 unfolding pushed
 pushed-early loads count load h = rw (lt-ltb count 13 h)
 
-pub pushed-late : (loads : List ℤ) (count : ℕ) (load : ℤ) (l : List ℤ) → 13 ≤ count → l ≡ shifted loads load → l ≡ pushed loads count load
+pub pushed-late : (loads : List ℤ) (count : ℕ) (load : ℤ) (l : List ℤ) → 13 ≤ count → l ≡ shifted loads load
+    → l ≡ pushed loads count load
 unfolding pushed
 pushed-late loads count load l h e = rw (le-ltb count 13 h) e
 
@@ -122,7 +124,8 @@ load-within [] i h e = absurd (omega arith)
 load-within (l ∷ ls) zero h e = and-left (loadOk l) (loadsOk ls) e
 load-within (l ∷ ls) (suc i) h e = load-within ls i (omega arith) (and-right (loadOk l) (loadsOk ls) e)
 
-pub stored-at : (loads : List ℤ) (i : ℕ) (code : ℕ) → i < length loads → code ≡ stored (getD loads i (pos 0)) → code ≡ getD (map stored loads) i 0
+pub stored-at : (loads : List ℤ) (i : ℕ) (code : ℕ) → i < length loads → code ≡ stored (getD loads i (pos 0))
+    → code ≡ getD (map stored loads) i 0
 stored-at [] i code h e = absurd (omega arith)
 stored-at (l ∷ ls) zero code h e = e
 stored-at (l ∷ ls) (suc i) code h e = stored-at ls i code (omega arith) e

@@ -1,4 +1,5 @@
--- What the tests of grounds 1 to 5 and 7, 8 say where they pass: bounds as orders of numbers. By taking the tests apart. Assumes nothing.
+-- What the tests of grounds 1 to 5 and 7, 8 say where they pass: bounds as orders of numbers. By taking the tests apart. Assumes
+-- nothing.
 use mathlib.Core.Path.{_≡_, refl}
 use mathlib.Core.Bool.{Bool, true, false, cond, not, _&&_, _||_, false≢true}
 use Prim.Native.Nat.{ℕ, _-_, _*_, _≤_, _<_}
@@ -75,7 +76,8 @@ pub record Serials (oldest current count slots : ℕ) : Type 0 where
   pub held : current - oldest ≤ slots
   pub fewer : 1 ≤ count → current - oldest < slots
 
-pub serials-within : (oldest current count slots : ℕ) → serialsOk oldest current count slots ≡ true → Serials oldest current count slots
+pub serials-within : (oldest current count slots : ℕ) → serialsOk oldest current count slots ≡ true
+    → Serials oldest current count slots
 unfolding serialsOk
 serials-within oldest current count slots e =
     let a = and-left (leb 1 oldest && (leb oldest current && leb current 999999999)) _ e in
@@ -104,8 +106,12 @@ counts-within current count buckets e =
     record {
       lifts = leb-true count 320 (and-left (leb count 320) _ a);
       few = leb-true buckets 36 (and-right (leb count 320) _ a);
-      some = λ h. bare (ne-eqb count 0 (λ z. omega arith)) (and-left (exactly (eqb buckets 0) (eqb count 0)) (not (eqb current 999999999) || eqb count 0) b);
-      goes-on = λ h. onward (ne-eqb count 0 (λ z. omega arith)) (and-right (exactly (eqb buckets 0) (eqb count 0)) (not (eqb current 999999999) || eqb count 0) b);
+      some =
+          λ h. bare (ne-eqb count 0 (λ z. omega arith)) (and-left (exactly (eqb buckets 0) (eqb count 0))
+          (not (eqb current 999999999) || eqb count 0) b);
+      goes-on =
+          λ h. onward (ne-eqb count 0 (λ z. omega arith)) (and-right (exactly (eqb buckets 0) (eqb count 0))
+          (not (eqb current 999999999) || eqb count 0) b);
     }
   where
     bare : eqb count 0 ≡ false → ((eqb buckets 0 && eqb count 0) || (not (eqb buckets 0) && not (eqb count 0))) ≡ true → 1 ≤ buckets
@@ -133,7 +139,9 @@ times-within current count next live start e =
     let b = and-right (leb next 1000000000000000 && (leb live 1000000000000000 && leb start 1000000000000000)) _ e in
     record {
       most = leb-true next 1000000000000000 (and-left (leb next 1000000000000000) _ a);
-      started = λ h. ltb-true start next (or-other (eqb count 0) _ (ne-eqb count 0 (λ z. omega arith)) (and-right (exactly (eqb next 0) (eqb current 1 && eqb count 0)) (eqb count 0 || ltb start next) b));
+      started =
+          λ h. ltb-true start next (or-other (eqb count 0) _ (ne-eqb count 0 (λ z. omega arith))
+          (and-right (exactly (eqb next 0) (eqb current 1 && eqb count 0)) (eqb count 0 || ltb start next) b));
     }
 
 pub record Span (low high : ℤ) : Type 0 where
@@ -154,7 +162,8 @@ pub record Liftable (time : ℕ) (load : ℤ) (next current : ℕ) : Type 0 wher
   pub later : next ≤ time
   pub onward : current < 999999998
 
-pub lift-within : (time : ℕ) (load : ℤ) (next current : ℕ) → liftGround time load next current 0 ≡ 0 → Liftable time load next current
+pub lift-within : (time : ℕ) (load : ℤ) (next current : ℕ) → liftGround time load next current 0 ≡ 0
+    → Liftable time load next current
 unfolding liftGround
 lift-within time load next current e =
     let a = ground-not 4 (not (timeOk time)) _ (λ z. omega arith) e in
@@ -172,7 +181,8 @@ lift-within time load next current e =
 
 -- the grounds after these: where none of these holds, they decide
 pub lift-then : (time : ℕ) (load : ℤ) (next current rest : ℕ)
-    → liftGround time load next current rest ≡ cond (eqb (liftGround time load next current 0) 0) rest (liftGround time load next current 0)
+    → liftGround time load next current rest ≡ cond (eqb (liftGround time load next current 0) 0) rest
+    (liftGround time load next current 0)
 unfolding liftGround
 lift-then time load next current rest = go (not (timeOk time)) (not (loadOk load)) (ltb time next) (leb 999999998 current)
   where

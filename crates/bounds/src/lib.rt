@@ -1,4 +1,5 @@
-// Grounds 1 to 8 and the bounds of the state, on plain numbers; the last loads, low and high after a lift (document 01, "Twelve grounds", "State").
+// Grounds 1 to 8 and the bounds of the state, on plain numbers; the last loads, low and high after a lift (document 01, "Twelve
+// grounds", "State").
 ghost use mathlib.Core.Path.{_≡_};
 ghost use mathlib.Core.Bool.{true};
 ghost use mathlib.Core.List.{map};

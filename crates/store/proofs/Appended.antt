@@ -1,4 +1,5 @@
--- Each return of `append` is what the definition gives there: grounds 1 to 8, then 10 and 11, then the world that the pieces leave one after the
+-- Each return of `append` is what the definition gives there: grounds 1 to 8, then 10 and 11, then the world that the pieces
+-- leave one after the
 -- other. Assumes nothing.
 use mathlib.Core.Path.{_≡_, refl, sym, ap, subst, _∙_}
 use mathlib.Core.Bool.{Bool, true, false, cond, not}
@@ -11,7 +12,7 @@ use lib.ListN.{length}
 use borrow.Author.Tests.{ne-eqb}
 use Rattle.tree.specs.Plan as Tree
 use Rattle.tree.specs.Plan.{isNoRoom}
-use Rattle.bounds.specs.Grounds.{ground, nandBad, norBad, liftGround}
+use Rattle.bounds.specs.Grounds.{nandBad, norBad, liftGround}
 use Rattle.bounds.proofs.Within.{lift-then}
 use Rattle.grow.specs.declared.Plan.{Plan}
 use Rattle.grow.specs.declared.Plan.the-variants.{Damage, Full, Root, Entry, Child, Split}
@@ -22,6 +23,7 @@ use Rattle.store.specs.World.{World, world, closeWorld, movedOn, dropWor
 use Rattle.store.specs.Calls as Calls
 use Rattle.store.specs.Calls.{answered, boundsGround, planOf, roomWorld, appendGround, appendWorld, appendOutcome}
 use Rattle.store.specs.Pieces.{Suits, dropsFirst, dropDue, entryGround, laterGround, carriedOut}
+use Rattle.store.proofs.Rows.{row-same, row-later, row-none}
 use Rattle.store.proofs.Grounds.{Standing}
 use Rattle.store.proofs.Outcomes.{refuses, accepts, stands}
 
@@ -30,48 +32,33 @@ use Rattle.store.proofs.Outcomes.{refuses, accepts, stands}
 module _ (s : State) (nand nor slots time : ℕ) (load : ℤ) (n : ℕ) (judged : n ≡ boundsGround s nand nor slots) where
   pub entry-bounds : (n ≡ 0 → ⊥) → n ≡ entryGround s nand nor slots time load
   unfolding entryGround boundsGround
-  entry-bounds h = go (nandBad nand slots) (norBad nor) (not (withinBounds s slots)) judged
-    where
-      rest : ℕ
-      rest = liftGround time load (s .next) (s .current) 0
-
-      go : (a b c : Bool) → n ≡ ground 1 a (ground 2 b (ground 3 c 0)) → n ≡ ground 1 a (ground 2 b (ground 3 c rest))
-      go true b c e = e
-      go false true c e = e
-      go false false true e = e
-      go false false false e = absurd (h e)
+  entry-bounds h =
+      row-same (nandBad nand slots) (norBad nor) (not (withinBounds s slots)) n 0
+      (liftGround time load (s .next) (s .current) 0) judged (λ e. absurd (h e))
 
   pub entry-lift : (m : ℕ) → n ≡ 0 → m ≡ liftGround time load (s .next) (s .current) 0 → m ≡ entryGround s nand nor slots time load
   unfolding entryGround boundsGround
-  entry-lift m h f = go (nandBad nand slots) (norBad nor) (not (withinBounds s slots)) judged
-    where
-      rest : ℕ
-      rest = liftGround time load (s .next) (s .current) 0
-
-      go : (a b c : Bool) → n ≡ ground 1 a (ground 2 b (ground 3 c 0)) → m ≡ ground 1 a (ground 2 b (ground 3 c rest))
-      go true b c e = absurd (omega arith)
-      go false true c e = absurd (omega arith)
-      go false false true e = absurd (omega arith)
-      go false false false e = f
+  entry-lift m h f =
+      row-later (nandBad nand slots) (norBad nor) (not (withinBounds s slots)) n 0
+      (liftGround time load (s .next) (s .current) 0) judged h m f
 
 -- where none of them holds
 pub record Entered (s : State) (nand nor slots time : ℕ) (load : ℤ) : Type 0 where
   pub bounds : boundsGround s nand nor slots ≡ 0
   pub lift : liftGround time load (s .next) (s .current) 0 ≡ 0
 
-pub entered : (s : State) (nand nor slots time : ℕ) (load : ℤ) → entryGround s nand nor slots time load ≡ 0 → Entered s nand nor slots time load
+pub entered : (s : State) (nand nor slots time : ℕ) (load : ℤ) → entryGround s nand nor slots time load ≡ 0
+    → Entered s nand nor slots time load
 unfolding entryGround boundsGround
-entered s nand nor slots time load e = go (nandBad nand slots) (norBad nor) (not (withinBounds s slots)) refl refl refl e
-  where
-    rest : ℕ
-    rest = liftGround time load (s .next) (s .current) 0
+entered s nand nor slots time load e =
+    let r = row-none (nandBad nand slots) (norBad nor) (not (withinBounds s slots))
+    (liftGround time load (s .next) (s .current) 0) e in
+    record { bounds = r .0; lift = r .1 }
 
-    go : (a b c : Bool) → nandBad nand slots ≡ a → norBad nor ≡ b → not (withinBounds s slots) ≡ c → ground 1 a (ground 2 b (ground 3 c rest)) ≡ 0
-        → Entered s nand nor slots time load
-    go true b c p q r f = absurd (omega arith)
-    go false true c p q r f = absurd (omega arith)
-    go false false true p q r f = absurd (omega arith)
-    go false false false p q r f = record { bounds = rw (p, q, r); lift = f }
+-- of the load as passed
+pub entry-of : (s : State) (nand nor slots time : ℕ) (z load : ℤ) (n : ℕ) → z ≡ load → n ≡ entryGround s nand nor slots time z
+    → n ≡ entryGround s nand nor slots time load
+entry-of s nand nor slots time z load n k e = e ∙ ap (entryGround s nand nor slots time) k
 
 -- ---- room for the lift
 
@@ -96,7 +83,8 @@ pub record Droppable (s : State) : Type 0 where
   pub first : 1 ≤ s .oldest
   pub rising : s .oldest ≤ s .current
 
-module _ (nand nor : List ℕ) (s : State) (slots : ℕ) (st : Standing s (length nand) (length nor) slots) (p : Plan) (suits : Suits s p) where
+module _ (nand nor : List ℕ) (s : State) (slots : ℕ) (st : Standing s (length nand) (length nor) slots) (p : Plan)
+    (suits : Suits s p) where
   abbrev before : World
   before = world nand nor s
 
@@ -151,18 +139,25 @@ due-nor : (nand nor nand' : List ℕ) (s s' : State) (slots : ℕ) → world nan
 unfolding dropDue dropWorld liveAfter
 due-nor nand nor nand' s s' slots e = go (dropsFirst s slots) (ap (λ (t : World). world (t .nand) nor (t .state)) e)
   where
-    go : (b : Bool) → world nand' nor s' ≡ world (cond b (dropWorld (world nand [] s) slots) (world nand [] s) .nand) nor (cond b (dropWorld (world nand [] s) slots) (world nand [] s) .state)
+    bare : Bool → World
+    bare b = cond b (dropWorld (world nand [] s) slots) (world nand [] s)
+
+    go : (b : Bool) → world nand' nor s' ≡ world (bare b .nand) nor (bare b .state)
         → world nand' nor s' ≡ cond b (dropWorld (world nand nor s) slots) (world nand nor s)
     go true f = f
     go false f = f
 
 -- one after the other
-pub carried-made : (w : World) (nand nor nand' nand'' nor'' : List ℕ) (s s' s'' : State) (slots time : ℕ) (load : ℤ) (note : List ℕ) (p : Tree.Plan)
-    → world nand nor s ≡ roomWorld w slots p → world nand' [] s' ≡ dropDue (world nand [] s) slots
-    → world nand'' nor'' s'' ≡ putWorld (world nand' nor s') slots time load note p → world nand'' nor'' s'' ≡ carriedOut w slots time load note p
+pub carried-made : (w : World) (nand nor nand' nand'' nor'' : List ℕ) (s s' s'' : State) (slots time : ℕ) (z load : ℤ)
+    (note : List ℕ) (p : Tree.Plan)
+    → z ≡ load → world nand nor s ≡ roomWorld w slots p → world nand' [] s' ≡ dropDue (world nand [] s) slots
+    → world nand'' nor'' s'' ≡ putWorld (world nand' nor s') slots time z note p
+    → world nand'' nor'' s'' ≡ carriedOut w slots time load note p
 unfolding carriedOut
-carried-made w nand nor nand' nand'' nor'' s s' s'' slots time load note p e f g =
-    g ∙ ap (λ (t : World). putWorld t slots time load note p) (due-nor nand nor nand' s s' slots f ∙ ap (λ (t : World). dropDue t slots) e)
+carried-made w nand nor nand' nand'' nor'' s s' s'' slots time z load note p k e f g =
+    g ∙ ap (λ (t : ℤ). putWorld (world nand' nor s') slots time t note p) k
+    ∙ ap (λ (t : World). putWorld t slots time load note p) (due-nor nand nor nand' s s' slots f
+    ∙ ap (λ (t : World). dropDue t slots) e)
 
 -- ---- the number
 
@@ -171,20 +166,20 @@ module _ (nand nor : List ℕ) (s : State) (slots time : ℕ) (load : ℤ) (note
   abbrev w : World
   w = world nand nor s
 
-  early : (n ≡ 0 → ⊥) → n ≡ appendGround w slots time load
-  unfolding appendGround entryGround
-  early h = go (nandBad (length nand) slots) (norBad (length nor)) (not (withinBounds s slots)) judged
-    where
-      more : ℕ
-      more = ground 10 (Calls.appendDamage (roomWorld w slots (planOf w load)) slots load (planOf w load))
-          (ground 11 (Calls.appendUnerased w (roomWorld w slots (planOf w load)) slots (planOf w load)) 0)
+  -- grounds 10 and 11
+  more : ℕ
+  more = laterGround w slots load (planOf w load)
 
-      go : (a b c : Bool) → n ≡ ground 1 a (ground 2 b (ground 3 c (liftGround time load (s .next) (s .current) 0)))
-          → n ≡ ground 1 a (ground 2 b (ground 3 c (liftGround time load (s .next) (s .current) more)))
-      go true b c e = e
-      go false true c e = e
-      go false false true e = e
-      go false false false e = e ∙ sym (lift-then time load (s .next) (s .current) more ∙ rw (← e, ne-eqb n 0 h))
+  early : (n ≡ 0 → ⊥) → n ≡ appendGround w slots time load
+  unfolding appendGround entryGround more laterGround
+  early h =
+      row-same (nandBad (length nand) slots) (norBad (length nor)) (not (withinBounds s slots)) n _ _ judged
+      (λ e. e ∙ sym (lift-then time load (s .next) (s .current) more ∙ past e))
+    where
+      past : n ≡ liftGround time load (s .next) (s .current) 0
+          → cond (eqb (liftGround time load (s .next) (s .current) 0) 0) more (liftGround time load (s .next) (s .current) 0)
+          ≡ liftGround time load (s .next) (s .current) 0
+      past e = rw (← e, ne-eqb n 0 h)
 
   pub append-early : (n ≡ 0 → ⊥) → answered n nand nor s ≡ appendOutcome w slots time load note
   unfolding appendOutcome
@@ -192,27 +187,27 @@ module _ (nand nor : List ℕ) (s : State) (slots time : ℕ) (load : ℤ) (note
 
   module _ (zero : n ≡ 0) (p : Tree.Plan) (planned : p ≡ planOf w load) (m : ℕ) (later : m ≡ laterGround w slots load p) where
     number : m ≡ appendGround w slots time load
-    unfolding appendGround laterGround
+    unfolding appendGround more laterGround
     number =
         let e = entered s (length nand) (length nor) slots time load (sym judged ∙ zero) in
-        stands w slots 0 (sym (e .bounds)) _ m refl (later ∙ by-plan ∙ sym (lift-then time load (s .next) (s .current) more ∙ past (e .lift)))
+        stands w slots 0 (sym (e .bounds)) _ m refl (later ∙ by-plan
+        ∙ sym (lift-then time load (s .next) (s .current) more ∙ past (e .lift)))
       where
-        more : ℕ
-        more = ground 10 (Calls.appendDamage (roomWorld w slots (planOf w load)) slots load (planOf w load))
-            (ground 11 (Calls.appendUnerased w (roomWorld w slots (planOf w load)) slots (planOf w load)) 0)
-
         by-plan : laterGround w slots load p ≡ more
         by-plan = rw planned
 
         past : liftGround time load (s .next) (s .current) 0 ≡ 0
-            → cond (eqb (liftGround time load (s .next) (s .current) 0) 0) more (liftGround time load (s .next) (s .current) 0) ≡ more
+            → cond (eqb (liftGround time load (s .next) (s .current) 0) 0) more
+            (liftGround time load (s .next) (s .current) 0) ≡ more
         past f = rw f
 
     pub append-later : (m ≡ 0 → ⊥) → answered m nand nor s ≡ appendOutcome w slots time load note
     unfolding appendOutcome
     append-later h = refuses m _ w (appendWorld w slots time load note) number h
 
-    pub append-done : (nand' nor' : List ℕ) (s' : State) → m ≡ 0 → world nand' nor' s' ≡ carriedOut w slots time load note p
+    pub append-done : (nand' nor' : List ℕ) (s' : State) (z : ℤ) → z ≡ load → m ≡ 0
+        → world nand' nor' s' ≡ carriedOut w slots time z note p
         → answered 0 nand' nor' s' ≡ appendOutcome w slots time load note
     unfolding appendOutcome appendWorld carriedOut dropDue Calls.dropsFirst
-    append-done nand' nor' s' h e = accepts m _ w (appendWorld w slots time load note) number (world nand' nor' s') h (rw planned at e)
+    append-done nand' nor' s' z k h e =
+        accepts m _ w (appendWorld w slots time load note) number (world nand' nor' s') h (rw (planned, k) at e)

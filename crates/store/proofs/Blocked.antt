@@ -1,4 +1,5 @@
--- Grounds 10 and 11 of an append, as tested: on the state as it is, or as a close in the same call leaves it. After a close NOR is erased, so
+-- Grounds 10 and 11 of an append, as tested: on the state as it is, or as a close in the same call leaves it. After a close NOR
+-- is erased, so
 -- what is due for writing is 255. Assumes nothing.
 use mathlib.Core.Path.{_≡_, refl, sym, ap, _∙_}
 use mathlib.Core.Bool.{Bool, true, false, not, _&&_, _||_, false≢true}
@@ -16,6 +17,7 @@ use Rattle.tree.specs.Plan.{Plan, damaged, noRoom, newRoot, intoBucket, newChil
 use Rattle.tree.specs.Writes.{writesOf, allClear}
 use Rattle.bounds.specs.Grounds.{ground}
 use Rattle.store.specs.declared.State.{State}
+use Rattle.store.proofs.Rows.{twice}
 use Rattle.store.specs.World.{World, world, closeWorld, movedOn, fillsPage}
 use Rattle.store.specs.Calls as Calls
 use Rattle.store.specs.Calls.{roomWorld, norClear, dropDamage, appendDamage, appendUnerased}
@@ -23,7 +25,8 @@ use Rattle.store.specs.Pieces.{dropsFirst, forcedGood, laterGround}
 
 -- ---- damage on the path
 
-pub damaged-later : (w : World) (slots : ℕ) (load : ℤ) (p : Plan) (d : Bool) → d ≡ isDamaged p → d ≡ true → 10 ≡ laterGround w slots load p
+pub damaged-later : (w : World) (slots : ℕ) (load : ℤ) (p : Plan) (d : Bool) → d ≡ isDamaged p → d ≡ true
+    → 10 ≡ laterGround w slots load p
 unfolding laterGround appendDamage
 damaged-later w slots load p d e h = rw (← e, h)
 
@@ -43,12 +46,9 @@ both : (d c good clear : Bool) → good ≡ not d → clear ≡ c → (d || not 
 both true c good clear e f = rw e
 both false c good clear e f = rw (e, f)
 
-twice : (b : Bool) → b ≡ not (not b)
-twice true = refl
-twice false = refl
-
 module _ (nand nor : List ℕ) (s : State) (slots : ℕ) (load : ℤ) (p : Plan) (sound : isDamaged p ≡ false) (room : isNoRoom p ≡ false)
-    (good clear : Bool) (judged : good ≡ not (dropsFirst s slots && dropDamage (world nand [] s) slots)) (cleared : clear ≡ norClear (world [] nor s) load p) where
+    (good clear : Bool) (judged : good ≡ not (dropsFirst s slots && dropDamage (world nand [] s) slots))
+    (cleared : clear ≡ norClear (world [] nor s) load p) where
   abbrev w : World
   w = world nand nor s
 
@@ -68,9 +68,11 @@ module _ (nand nor : List ℕ) (s : State) (slots : ℕ) (load : ℤ) (p : Plan)
   put-damaged h = rw (later, h)
 
   pub put-unerased : (slot : ℕ) (free : Bool) → not (good && clear) ≡ false → slot ≡ slotOf (s .current) slots
-      → free ≡ not (eqb (s .count % 16) 15 && not (pageErased nand slot (s .count / 16))) → ground 11 (not free) 0 ≡ laterGround w slots load p
+      → free ≡ not (eqb (s .count % 16) 15 && not (pageErased nand slot (s .count / 16)))
+      → ground 11 (not free) 0 ≡ laterGround w slots load p
   unfolding appendUnerased
-  put-unerased slot free h e f = rw (later, h, room, f, e) (ap (λ b. ground 11 b 0) (sym (twice (fillsPage s && not (pageErased nand (slotOf (s .current) slots) (s .count / 16))))))
+  put-unerased slot free h e f =
+      rw (later, h, room, f, e) (ap (λ b. ground 11 b 0) (sym (twice (fillsPage s && not (pageErased nand (slotOf (s .current) slots) (s .count / 16))))))
 
 -- ---- after a close
 
@@ -97,7 +99,8 @@ module _ (nand nor : List ℕ) (s : State) (slots : ℕ) (load : ℤ) (size : le
     forced b h = twice d ∙ ap not (sym judged) ∙ h
 
     later-closed : (b : Bool) → not good ≡ b
-        → laterGround v slots load noRoom ≡ ground 10 (b || false) (ground 11 (appendUnerased v (closeWorld v slots) slots noRoom) 0)
+        → laterGround v slots load noRoom ≡ ground 10 (b || false) (ground 11 (appendUnerased v (closeWorld v slots) slots noRoom)
+        0)
     unfolding laterGround roomWorld appendDamage Calls.dropsFirst d
     later-closed b h = rw (clear-closed, ← forced b h)
 
@@ -109,7 +112,8 @@ module _ (nand nor : List ℕ) (s : State) (slots : ℕ) (load : ℤ) (size : le
     unfolding appendUnerased closeWorld movedOn
     close-blocked slot erased h e f =
         let g : closeErased nand (slotOf (s .current) slots) (s .count) (s .buckets) ≡ erased = rw (← e) (sym f) in
-        sym (later-closed false h ∙ ap (λ b. ground 11 b 0) (or-false (not (closeErased nand (slotOf (s .current) slots) (s .count) (s .buckets))) ∙ ap not g))
+        sym (later-closed false h ∙ ap (λ b. ground 11 b 0) (or-false (not
+        (closeErased nand (slotOf (s .current) slots) (s .count) (s .buckets))) ∙ ap not g))
       where
         or-false : (b : Bool) → (b || false) ≡ b
         or-false true = refl

@@ -22,7 +22,8 @@ and-true true = refl
 and-true false = refl
 
 pub four-heads : (slots : ℕ) (ps : List Pointer) (e : Pointer) (a b c d : Bool) → length ps ≡ 4
-    → a ≡ inSlots (getD ps 0 e) slots → b ≡ inSlots (getD ps 1 e) slots → c ≡ inSlots (getD ps 2 e) slots → d ≡ inSlots (getD ps 3 e) slots
+    → a ≡ inSlots (getD ps 0 e) slots → b ≡ inSlots (getD ps 1 e) slots → c ≡ inSlots (getD ps 2 e) slots
+    → d ≡ inSlots (getD ps 3 e) slots
     → (a && (b && (c && d))) ≡ headsOk ps slots
 unfolding headsOk
 four-heads slots [] e a b c d l p q r s = absurd (omega arith)
@@ -55,7 +56,8 @@ module _ (s : State) (nand nor slots n : ℕ) (judged : n ≡ formatGround nand 
   unfolding boundsGround formatGround
   bounds-state r z e = go (nandBad nand slots) (norBad nor) judged
     where
-      go : (a b : Bool) → n ≡ ground 1 a (ground 2 b 0) → ground 3 (not r) 0 ≡ ground 1 a (ground 2 b (ground 3 (not (withinBounds s slots)) 0))
+      go : (a b : Bool) → n ≡ ground 1 a (ground 2 b 0)
+          → ground 3 (not r) 0 ≡ ground 1 a (ground 2 b (ground 3 (not (withinBounds s slots)) 0))
       go true b f = absurd (omega arith)
       go false true f = absurd (omega arith)
       go false false f = rw e
@@ -100,6 +102,7 @@ standing s nand nor slots e =
     let e2 = Within.ground-rest 1 n (ground 2 m (ground 3 (not (withinBounds s slots)) 0)) (λ z. omega arith) e in
     let e3 = Within.ground-rest 2 m (ground 3 (not (withinBounds s slots)) 0) (λ z. omega arith) e2 in
     within s nand nor slots
-    (Within.chips-fit-if nand nor slots (Within.ground-not 1 n (ground 2 m (ground 3 (not (withinBounds s slots)) 0)) (λ z. omega arith) e)
+    (Within.chips-fit-if nand nor slots (Within.ground-not 1 n (ground 2 m (ground 3 (not (withinBounds s slots)) 0))
+    (λ z. omega arith) e)
     (Within.ground-not 2 m (ground 3 (not (withinBounds s slots)) 0) (λ z. omega arith) e2))
     (not-false (withinBounds s slots) (Within.ground-not 3 (not (withinBounds s slots)) 0 (λ z. omega arith) e3))

@@ -1,3 +1,4 @@
+pub mod Rows
 pub mod Grounds
 pub mod Steps
 pub mod Outcomes

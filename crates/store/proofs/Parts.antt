@@ -1,4 +1,5 @@
--- What the parts of an append's lift make: the buffers, NAND, NOR and the state after it. By the tests at a page's sixteenth and a section's
+-- What the parts of an append's lift make: the buffers, NAND, NOR and the state after it. By the tests at a page's sixteenth and
+-- a section's
 -- sixty-fourth lift. Assumes nothing.
 use mathlib.Core.Path.{_≡_, refl, sym, ap, _∙_}
 use mathlib.Core.Bool.{Bool, true, false, cond, not, _&&_, _||_, false≢true}
@@ -25,6 +26,7 @@ use Rattle.bounds.proofs.Within.{and-left, and-right}
 use Rattle.grow.specs.declared.Plan.{Plan}
 use Rattle.grow.specs.Meaning.{meaning, Fitting}
 use Rattle.store.specs.declared.State.{State}
+use Rattle.store.proofs.Rows.{twice}
 use Rattle.store.specs.World.{world, putWorld, stateWith, pageWith, bloomWith, fillsPage, fillsSection}
 use Rattle.store.specs.Calls.{planOf, norClear}
 use Rattle.store.specs.Pieces.{Suits, nandWith, norWith, stateGiven}
@@ -41,10 +43,6 @@ module _ {A : Type 0} (n k : ℕ) (x y : A) where
 -- a test that is asked only at a number
 pub asked : (n k : ℕ) (e r : Bool) → n ≡ k → r ≡ e → r ≡ not (eqb n k && not e)
 asked n k e r h f = rw (eq-eqb n k h, f) (twice e)
-  where
-    twice : (b : Bool) → b ≡ not (not b)
-    twice true = refl
-    twice false = refl
 
 pub unasked : (n k : ℕ) (e : Bool) → (n ≡ k → ⊥) → true ≡ not (eqb n k && not e)
 unasked n k e h = rw (ne-eqb n k h)
@@ -75,7 +73,8 @@ module _ (tree : List ℕ) (buckets : ℕ) (codes : List ℕ) (code n : ℕ) whe
       go true u = let v : n ≡ 320 = eqb-true n 320 u in absurd (false≢true (sym (rw v at e)))
       go false u = let v = eqb-false n 320 u in omega arith
 
-module _ (s : State) (nor tree : List ℕ) (codes : List ℕ) (code : ℕ) (p : Plan) (cut : tree ≡ norTree nor) (past : codes ≡ map stored (s .loads))
+module _ (s : State) (nor tree : List ℕ) (codes : List ℕ) (code : ℕ) (p : Plan) (cut : tree ≡ norTree nor)
+    (past : codes ≡ map stored (s .loads))
     (is : meaning p ≡ planOn tree (s .buckets) (s .count) codes code) where
   pub planned : (load : ℤ) → code ≡ stored load → meaning p ≡ planOf (world [] nor s) load
   planned load e = is ∙ rw (cut, past, e)
@@ -100,7 +99,8 @@ codes-most [] e k = omega arith
 codes-most (l ∷ ls) e zero = within-limits l (and-left (loadOk l) (loadsOk ls) e) .high
 codes-most (l ∷ ls) e (suc k) = codes-most ls (and-right (loadOk l) (loadsOk ls) e) k
 
-pub codes-within : (loads : List ℤ) (codes : List ℕ) → codes ≡ map stored loads → loadsOk loads ≡ true → (k : ℕ) → k < 13 → getD codes k 0 ≤ 150001
+pub codes-within : (loads : List ℤ) (codes : List ℕ) → codes ≡ map stored loads → loadsOk loads ≡ true → (k : ℕ) → k < 13
+    → getD codes k 0 ≤ 150001
 codes-within loads codes e h k l = rw e (codes-most loads h k)
 
 pub tree-long : (nor tree : List ℕ) → tree ≡ norTree nor → length nor ≡ 6144 → 4608 ≤ length tree
@@ -108,18 +108,20 @@ tree-long nor tree e size = omega (arith, ap length e ∙ length-part nor 0 4608
 
 -- ---- NOR bytes due for writing
 
-pub clear-all : (s : State) (nor : List ℕ) (ws : Writes) (load : ℤ) (p : Tree.Plan) (a b : Bool) → ws ≡ writesOf p (s .buckets) (stored load) (s .count)
-    → a ≡ allClear nor ws → b ≡ (not (eqb (s .count % 64) 63) || allOnes (part nor (4608 + s .count / 64 * 128) 128))
+pub clear-all : (s : State) (nor : List ℕ) (ws : Writes) (code : ℕ) (load : ℤ) (p : Tree.Plan) (a b : Bool) → code ≡ stored load
+    → ws ≡ writesOf p (s .buckets) code (s .count) → a ≡ allClear nor ws
+    → b ≡ (not (eqb (s .count % 64) 63) || allOnes (part nor (4608 + s .count / 64 * 128) 128))
     → (a && b) ≡ norClear (world [] nor s) load p
 unfolding norClear
-clear-all s nor ws load p a b e f g = rw (f, g, e)
+clear-all s nor ws code load p a b k e f g = rw (f, g, e, k)
 
 -- ---- the lift
 
 module _ (s : State) (time code : ℕ) (load : ℤ) (note : List ℕ) (coded : code ≡ stored load) where
   pub recorded-nand : (nand nand' : List ℕ) (slots slot : ℕ) (full : List ℕ) → slot ≡ slotOf (s .current) slots
       → full ≡ splice (s .page) (s .count % 16 * 32) (recordBytes time code note)
-      → nand' ≡ cond (eqb (s .count % 16) 15) (programmed nand slot (s .count / 16) full) nand → nand' ≡ nandWith nand s slots time load note
+      → nand' ≡ cond (eqb (s .count % 16) 15) (programmed nand slot (s .count / 16) full) nand
+      → nand' ≡ nandWith nand s slots time load note
   unfolding nandWith
   recorded-nand nand nand' slots slot full e f g = rw (← coded, ← f, ← e) g
 
@@ -137,9 +139,10 @@ module _ (s : State) (time code : ℕ) (load : ℤ) (note : List ℕ) (coded : c
       → r ≡ cond (fillsSection s) emptySection (bloomWith s load)
   indexed-section full r f g = rw (← coded, ← f) g
 
-pub counted-made : (s : State) (time : ℕ) (load : ℤ) (buckets : ℕ) (page section : List ℕ) (loads : List ℤ) (low high : ℤ) (start live : ℕ)
-    → loads ≡ pushed (s .loads) (s .count) load → low ≡ lowWith (s .count) (s .low) load → high ≡ highWith (s .count) (s .high) load
-    → start ≡ cond (eqb (s .count) 0) time (s .start) → live ≡ cond (eqb (s .count) 0 && eqb (s .oldest) (s .current)) time (s .live)
+pub counted-made : (s : State) (time : ℕ) (load : ℤ) (buckets : ℕ) (page section : List ℕ) (loads : List ℤ) (low high : ℤ)
+    (start live : ℕ) → loads ≡ pushed (s .loads) (s .count) load → low ≡ lowWith (s .count) (s .low) load → high ≡ highWith (s .count) (s .high) load
+    → start ≡ cond (eqb (s .count) 0) time (s .start)
+    → live ≡ cond (eqb (s .count) 0 && eqb (s .oldest) (s .current)) time (s .live)
     → _≡_ {A = State} (record {
       oldest = s .oldest;
       current = s .current;
@@ -158,9 +161,12 @@ pub counted-made : (s : State) (time : ℕ) (load : ℤ) (buckets : ℕ) (page s
 unfolding stateGiven
 counted-made s time load buckets page section loads low high start live a b c d e = rw (a, b, c, d, e)
 
-pub put-made : (nand nor nand' nor' : List ℕ) (s s' : State) (slots time : ℕ) (load : ℤ) (note : List ℕ) (p : Tree.Plan) (buckets : ℕ) (page section : List ℕ)
-    → nand' ≡ nandWith nand s slots time load note → nor' ≡ norWith nor s load p → page ≡ cond (fillsPage s) erasedPage (pageWith s time load note)
-    → section ≡ cond (fillsSection s) emptySection (bloomWith s load) → buckets ≡ bucketsAfter p (s .buckets)
-    → s' ≡ stateGiven s time load buckets page section → world nand' nor' s' ≡ putWorld (world nand nor s) slots time load note p
+pub put-made : (nand nor nand' nor' : List ℕ) (s s' : State) (slots time : ℕ) (z load : ℤ) (note : List ℕ) (p : Tree.Plan)
+    (buckets : ℕ) (page section : List ℕ)
+    → z ≡ load → nand' ≡ nandWith nand s slots time load note → nor' ≡ norWith nor s load p
+    → page ≡ cond (fillsPage s) erasedPage (pageWith s time load note)
+    → section ≡ cond (fillsSection s) emptySection (bloomWith s load)
+    → buckets ≡ bucketsAfter p (s .buckets) → s' ≡ stateGiven s time z buckets page section
+    → world nand' nor' s' ≡ putWorld (world nand nor s) slots time load note p
 unfolding putWorld stateWith nandWith norWith stateGiven
-put-made nand nor nand' nor' s s' slots time load note p buckets page section a b c d e f = rw (a, b, f, c, d, e)
+put-made nand nor nand' nor' s s' slots time z load note p buckets page section k a b c d e f = rw (a, b, f, c, d, e, k)

@@ -58,18 +58,22 @@ closing-made s low high p q = rw (p, q)
 
 -- ---- a header in NAND
 
-pub header-there : (nand : List ℕ) (slots slot : ℕ) (h : List ℕ) → length nand ≡ slots * 16384 → slot < slots → h ≡ pagesOf nand slot 31 1 → length h ≡ 512
+pub header-there : (nand : List ℕ) (slots slot : ℕ) (h : List ℕ) → length nand ≡ slots * 16384 → slot < slots
+    → h ≡ pagesOf nand slot 31 1 → length h ≡ 512
 header-there nand slots slot h size there e = ap length e ∙ length-part nand (pageStart slot 31) 512 (omega arith)
 
-pub header-read : (nand : List ℕ) (slots serial before slot : ℕ) (h : List ℕ) (r : Header) → slot ≡ slotOf serial slots → h ≡ pagesOf nand slot 31 1
+pub header-read : (nand : List ℕ) (slots serial before slot : ℕ) (h : List ℕ) (r : Header) → slot ≡ slotOf serial slots
+    → h ≡ pagesOf nand slot 31 1
     → r ≡ headerIn h slots before → r ≡ headerIn (pageOf nand (slotOf serial slots) 31) slots before
 header-read nand slots serial before slot h r e f g =
     g ∙ ap (λ (p : List ℕ). headerIn p slots before) (f ∙ ap (λ (t : ℕ). pageOf nand t 31) e)
 
 -- ---- a close
 
-pub moved-made : (s : State) (slot level : ℕ) (p : Pointer) (heads : List Pointer) (loads : List ℤ) (page bloom : List ℕ) → level ≡ levelOf (s .current)
-    → p ≡ pointer slot (s .start) → heads ≡ headsAfter (s .heads) level p → loads ≡ noLoads → page ≡ erasedPage → bloom ≡ emptySection
+pub moved-made : (s : State) (slot level : ℕ) (p : Pointer) (heads : List Pointer) (loads : List ℤ) (page bloom : List ℕ)
+    → level ≡ levelOf (s .current)
+    → p ≡ pointer slot (s .start) → heads ≡ headsAfter (s .heads) level p → loads ≡ noLoads → page ≡ erasedPage
+    → bloom ≡ emptySection
     → _≡_ {A = State} (record {
       oldest = s .oldest;
       current = s .current + 1;

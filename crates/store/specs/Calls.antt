@@ -1,4 +1,5 @@
--- The calls that write: their grounds in checking order (document 01, "Twelve grounds") and their outcomes, for any chips and any state.
+-- The calls that write: their grounds in checking order (document 01, "Twelve grounds") and their outcomes, for any chips and any
+-- state.
 -- Assumes nothing.
 use mathlib.Core.Bool.{Bool, true, false, cond, not, _&&_, _||_}
 use mathlib.Core.List.{List, [], map}
@@ -19,7 +20,8 @@ use Rattle.bounds.specs.Lifts.{noLoads}
 use Rattle.store.specs.declared.State.{State}
 use Rattle.store.specs.declared.Renewal.{Renewal}
 use Rattle.store.specs.Bounds.{withinBounds}
-use Rattle.store.specs.World.{World, world, closeWorld, dropWorld, putWorld, nextOldest, closedRemains, liveAfter, fillsPage, fillsSection, sectionStart}
+use Rattle.store.specs.World.{World, world, closeWorld, dropWorld, putWorld}
+use Rattle.store.specs.World.{nextOldest, closedRemains, liveAfter, fillsPage, fillsSection, sectionStart}
 
 -- a call's number, with the chips and the state that it leaves
 pub record Outcome : Type 0 where
@@ -64,7 +66,8 @@ formatOutcome nand nor slots =
 
 abbrev pub stateGround : World → ℕ → ℕ → ℕ
 stateGround w slots rest =
-    ground 1 (nandBad (length (w .nand)) slots) (ground 2 (norBad (length (w .nor))) (ground 3 (not (withinBounds (w .state) slots)) rest))
+    ground 1 (nandBad (length (w .nand)) slots) (ground 2 (norBad (length (w .nor)))
+    (ground 3 (not (withinBounds (w .state) slots)) rest))
 
 -- these alone, by the chips' lengths
 unfoldable pub boundsGround : State → ℕ → ℕ → ℕ → ℕ

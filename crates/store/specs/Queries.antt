@@ -1,4 +1,5 @@
--- The calls that read: search and tally, with their grounds in checking order (document 01, "Twelve grounds"), for any chips and any state.
+-- The calls that read: search and tally, with their grounds in checking order (document 01, "Twelve grounds"), for any chips and
+-- any state.
 -- Assumes nothing.
 use mathlib.Core.Bool.{Bool, cond, not, _&&_, _||_}
 use mathlib.Core.List.{List}
@@ -51,5 +52,6 @@ unfoldable pub tallyOutcome : World → ℕ → ℕ → ℕ → TallyAnswer
 tallyOutcome w slots t1 t2 =
     let n = searchGround w slots t1 t2 (negsuc 49999) (pos 100000) in
     cond (eqb n 0)
-    (tallyAnswer (foundRows (w .nand) (w .nor) (w .state .page) (logOf (w .state) slots) (queryOf t1 t2 (negsuc 49999) (pos 100000))))
+    (tallyAnswer (foundRows (w .nand) (w .nor) (w .state .page) (logOf (w .state) slots)
+    (queryOf t1 t2 (negsuc 49999) (pos 100000))))
     (record { number = n; counts = noCounts })

@@ -1,4 +1,5 @@
--- What a close, a drop and a lift that is put do to the chips and the state (document 01, "State", "Segments"), for any chips and any state.
+-- What a close, a drop and a lift that is put do to the chips and the state (document 01, "State", "Segments"), for any chips and
+-- any state.
 -- Assumes nothing.
 use mathlib.Core.Bool.{Bool, true, false, cond, not, _&&_}
 use mathlib.Core.List.{List, [], _∷_, _++_, map}
@@ -48,7 +49,8 @@ closing s = record {
   bloom = s .bloom;
 }
 
--- "A close leaves count, buckets, last loads, start, low and high 0, the page buffer 255 and the Bloom buffer 0"; it "moves on one serial",
+-- "A close leaves count, buckets, last loads, start, low and high 0, the page buffer 255 and the Bloom buffer 0"; it "moves on
+-- one serial",
 -- and the heads up to its level point to the segment
 unfoldable pub movedOn : State → ℕ → State
 movedOn s slot = record {
@@ -87,7 +89,8 @@ closedRemains s = ltb (s .oldest + 1) (s .current)
 
 -- the oldest live time after a drop: "the start of the oldest retained lift, or next time if there is none"
 unfoldable pub liveAfter : World → ℕ → ℕ
-liveAfter w slots = cond (closedRemains (w .state)) (nextOldest w slots .start) (cond (eqb (w .state .count) 0) (w .state .next) (w .state .start))
+liveAfter w slots =
+    cond (closedRemains (w .state)) (nextOldest w slots .start) (cond (eqb (w .state .count) 0) (w .state .next) (w .state .start))
 
 unfoldable pub withoutOldest : State → ℕ → State
 withoutOldest s live = record {
@@ -153,14 +156,17 @@ stateWith s time load note p = record {
   high = highWith (s .count) (s .high) load;
 }
 
--- The lift goes last into the open segment, its entry where the plan says. "A page goes to NAND when its sixteenth lift arrives, and a
+-- The lift goes last into the open segment, its entry where the plan says. "A page goes to NAND when its sixteenth lift arrives,
+-- and a
 -- Bloom section to NOR at its sixty-fourth; that buffer is then made empty."
 unfoldable pub putWorld : World → ℕ → ℕ → ℤ → List ℕ → Plan → World
 putWorld w slots time load note p =
     let s = w .state in
     let entered = allWritten (w .nor) (writesOf p (s .buckets) (stored load) (s .count)) in
     record {
-      nand = cond (fillsPage s) (programmed (w .nand) (slotOf (s .current) slots) (s .count / 16) (pageWith s time load note)) (w .nand);
+      nand =
+          cond (fillsPage s) (programmed (w .nand) (slotOf (s .current) slots) (s .count / 16) (pageWith s time load note))
+          (w .nand);
       nor = cond (fillsSection s) (splice entered (sectionStart s) (bloomWith s load)) entered;
       state = stateWith s time load note p;
     }

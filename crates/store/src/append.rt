@@ -1,4 +1,5 @@
-// The pieces of an append (document 01, "Segments"): its plan, grounds 10 and 11, the close and the drop that make room, and the lift that is put.
+// The pieces of an append (document 01, "Segments"): its plan, grounds 10 and 11, the close and the drop that make room, and the
+// lift that is put.
 use crate::State;
 use flash::Page;
 use grow::Plan;
@@ -169,7 +170,8 @@ impl State {
     // The same after a close in this call: of two slots the header is the one to be programmed.
     fn closing_good(self, nand: &[u8], slots: u64) -> bool
         requires { ⌜ (boundsGround self (length (now nand)) 6144 slots ≡ 0) × (1 ≤ self .count) ⌝ }
-        ensures { λ r. ⌜ ((nor : List ℕ) → length nor ≡ 6144 → r ≡ Pieces.forcedGood (closeWorld (world (now (nand .entry)) nor self) slots) slots) ⌝ }
+        ensures { λ r. ⌜ ((nor : List ℕ) → length nor ≡ 6144 → r
+            ≡ Pieces.forcedGood (closeWorld (world (now (nand .entry)) nor self) slots) slots) ⌝ }
     {
         let current = self.current + 1;
         let held = (current - self.oldest) as u64;
@@ -189,7 +191,8 @@ impl State {
     // Grounds 10 and 11 of an append that closes first.
     fn blocked_closing(self, nand: &[u8], slots: u64) -> u8
         requires { ⌜ (boundsGround self (length (now nand)) 6144 slots ≡ 0) × (1 ≤ self .count) ⌝ }
-        ensures { λ r. ⌜ ((nor : List ℕ) (load : ℤ) → length nor ≡ 6144 → r ≡ laterGround (world (now (nand .entry)) nor self) slots load noRoom) ⌝ }
+        ensures { λ r. ⌜ ((nor : List ℕ) (load : ℤ) → length nor ≡ 6144 → r
+            ≡ laterGround (world (now (nand .entry)) nor self) slots load noRoom) ⌝ }
     {
         if !self.closing_good(nand, slots) {
             return 10;
@@ -214,7 +217,8 @@ impl State {
     fn blocked_put(self, nand: &[u8], nor: &[u8], slots: u64, code: u32, p: Plan) -> u8
         requires { ⌜ (boundsGround self (length (now nand)) (length (now nor)) slots ≡ 0) × Suits self p ⌝ }
         requires { ⌜ (isDamaged (meaning p) ≡ false) × (isNoRoom (meaning p) ≡ false) ⌝ }
-        ensures { λ r. ⌜ ((load : ℤ) → code ≡ stored load → r ≡ laterGround (world (now (nand .entry)) (now (nor .entry)) self) slots load (meaning p)) ⌝ }
+        ensures { λ r. ⌜ ((load : ℤ) → code ≡ stored load → r
+            ≡ laterGround (world (now (nand .entry)) (now (nor .entry)) self) slots load (meaning p)) ⌝ }
     {
         let good = self.drop_good(nand, slots);
         let clear = self.is_clear(nor, code, p);
@@ -231,7 +235,8 @@ impl State {
     // Grounds 10 and 11.
     pub fn blocked(self, nand: &[u8], nor: &[u8], slots: u64, code: u32, p: Plan) -> u8
         requires { ⌜ (boundsGround self (length (now nand)) (length (now nor)) slots ≡ 0) × Suits self p ⌝ }
-        ensures { λ r. ⌜ ((load : ℤ) → code ≡ stored load → r ≡ laterGround (world (now (nand .entry)) (now (nor .entry)) self) slots load (meaning p)) ⌝ }
+        ensures { λ r. ⌜ ((load : ℤ) → code ≡ stored load → r
+            ≡ laterGround (world (now (nand .entry)) (now (nor .entry)) self) slots load (meaning p)) ⌝ }
     {
         if is_damaged_plan(p) {
             return 10;
@@ -245,7 +250,8 @@ impl State {
     // A close if it is due.
     fn room(self, nand: &mut [u8], nor: &mut [u8], slots: u64, p: Plan) -> State
         requires { ⌜ (boundsGround self (length (now nand)) (length (now nor)) slots ≡ 0) × Suits self p ⌝ }
-        ensures { λ r. ⌜ world (now (nand .exit)) (now (nor .exit)) r ≡ roomWorld (world (now (nand .entry)) (now (nor .entry)) self) slots (meaning p) ⌝ }
+        ensures { λ r. ⌜ world (now (nand .exit)) (now (nor .exit)) r
+            ≡ roomWorld (world (now (nand .entry)) (now (nor .entry)) self) slots (meaning p) ⌝ }
     {
         if is_full(p) {
             return self.closed(nand, nor, slots);
@@ -275,8 +281,10 @@ impl State {
         note: [u8; 20],
     ) -> [u8; 512]
         requires { ⌜ (length (now nand) ≡ slots * 16384) × (1 ≤ slots) × (1 ≤ self .current) × (self .count ≤ 320) ⌝ }
-        ensures nand { λ _. ⌜ ((load : ℤ) → code ≡ stored load → now (nand .exit) ≡ Pieces.nandWith (now (nand .entry)) self slots time load note) ⌝ }
-        ensures page { λ r. ⌜ ((load : ℤ) → code ≡ stored load → r ≡ cond (fillsPage self) erasedPage (pageWith self time load note)) ⌝ }
+        ensures nand { λ _. ⌜ ((load : ℤ) → code ≡ stored load → now (nand .exit)
+            ≡ Pieces.nandWith (now (nand .entry)) self slots time load note) ⌝ }
+        ensures page { λ r. ⌜ ((load : ℤ) → code ≡ stored load → r
+            ≡ cond (fillsPage self) erasedPage (pageWith self time load note)) ⌝ }
     {
         let n = self.count as usize;
         let slot = flash::slot_of(self.current, slots);
@@ -287,9 +295,12 @@ impl State {
 
     // The entry goes into the tree, the load's bits into the section, and a full section to NOR.
     fn indexed(self, nor: &mut [u8], code: u32, p: Plan) -> [u8; 128]
-        requires { ⌜ (length (now nor) ≡ 6144) × (self .buckets ≤ 36) × (self .count ≤ 320) × Fitting (self .buckets) p × (1 ≤ code) ⌝ }
-        ensures nor { λ _. ⌜ ((load : ℤ) → code ≡ stored load → now (nor .exit) ≡ Pieces.norWith (now (nor .entry)) self load (meaning p)) ⌝ }
-        ensures section { λ r. ⌜ ((load : ℤ) → code ≡ stored load → r ≡ cond (fillsSection self) emptySection (bloomWith self load)) ⌝ }
+        requires { ⌜ (length (now nor) ≡ 6144) × (self .buckets ≤ 36) × (self .count ≤ 320) × Fitting (self .buckets) p
+            × (1 ≤ code) ⌝ }
+        ensures nor { λ _. ⌜ ((load : ℤ) → code ≡ stored load → now (nor .exit)
+            ≡ Pieces.norWith (now (nor .entry)) self load (meaning p)) ⌝ }
+        ensures section { λ r. ⌜ ((load : ℤ) → code ≡ stored load → r
+            ≡ cond (fillsSection self) emptySection (bloomWith self load)) ⌝ }
     {
         let w = grow::writes_of(p, self.buckets, code, self.count);
         grow::carry(nor, w);
@@ -348,7 +359,8 @@ impl State {
         requires { ⌜ (length (now nand) ≡ slots * 16384) × (length (now nor) ≡ 6144) × (1 ≤ slots) × (1 ≤ self .current) ⌝ }
         requires { ⌜ (self .count ≤ 320) × (self .buckets ≤ 36) × Fitting (self .buckets) p ⌝ }
         requires { ⌜ (time ≤ 999999999999999) × (loadOk load ≡ true) ⌝ }
-        ensures { λ r. ⌜ world (now (nand .exit)) (now (nor .exit)) r ≡ putWorld (world (now (nand .entry)) (now (nor .entry)) self) slots time load note (meaning p) ⌝ }
+        ensures { λ r. ⌜ world (now (nand .exit)) (now (nor .exit)) r
+            ≡ putWorld (world (now (nand .entry)) (now (nor .entry)) self) slots time load note (meaning p) ⌝ }
     {
         let code = lift::stored(load);
         let page = self.recorded(nand, slots, time, code, note);
@@ -370,7 +382,8 @@ impl State {
     ) -> State
         requires { ⌜ (boundsGround self (length (now nand)) (length (now nor)) slots ≡ 0) × Suits self p ⌝ }
         requires { ⌜ (time ≤ 999999999999999) × (loadOk load ≡ true) ⌝ }
-        ensures { λ r. ⌜ world (now (nand .exit)) (now (nor .exit)) r ≡ Pieces.carriedOut (world (now (nand .entry)) (now (nor .entry)) self) slots time load note (meaning p) ⌝ }
+        ensures { λ r. ⌜ world (now (nand .exit)) (now (nor .exit)) r
+            ≡ Pieces.carriedOut (world (now (nand .entry)) (now (nor .entry)) self) slots time load note (meaning p) ⌝ }
     {
         let a = self.room(nand, nor, slots, p);
         let b = a.dropped_first(nand, slots);

@@ -17,7 +17,8 @@ ghost use Rattle.store.specs.Bounds.{headsOk, withinBounds};
 ghost use Rattle.store.specs.World as World;
 ghost use Rattle.store.specs.World.{world, closeWorld, dropWorld};
 ghost use Rattle.store.specs.Calls as Calls;
-ghost use Rattle.store.specs.Calls.{answered, formatted, boundsGround, closeGround, formatOutcome, appendOutcome, closeOutcome, dropOutcome};
+ghost use Rattle.store.specs.Calls.{answered, formatted, boundsGround, closeGround};
+ghost use Rattle.store.specs.Calls.{formatOutcome, appendOutcome, closeOutcome, dropOutcome};
 
 // The state, by value, in the order of document 01's list. The last loads, low and high are signed, as logged.
 pub struct State {
@@ -180,7 +181,8 @@ impl State {
     // The open segment is closed.
     pub fn closed(self, nand: &mut [u8], nor: &mut [u8], slots: u64) -> State
         requires { ⌜ (boundsGround self (length (now nand)) (length (now nor)) slots ≡ 0) × (1 ≤ self .count) ⌝ }
-        ensures { λ r. ⌜ world (now (nand .exit)) (now (nor .exit)) r ≡ closeWorld (world (now (nand .entry)) (now (nor .entry)) self) slots ⌝ }
+        ensures { λ r. ⌜ world (now (nand .exit)) (now (nor .exit)) r
+            ≡ closeWorld (world (now (nand .entry)) (now (nor .entry)) self) slots ⌝ }
     {
         let slot = flash::slot_of(self.current, slots);
         let c = self.closing();
@@ -192,7 +194,8 @@ impl State {
     // The oldest closed segment is erased.
     pub fn dropped(mut self, nand: &mut [u8], slots: u64, live: u64) -> State
         requires { ⌜ (length (now nand) ≡ slots * 16384) × (1 ≤ slots) × (1 ≤ self .oldest) × (self .oldest < self .current) ⌝ }
-        ensures { λ r. ⌜ (now (nand .exit) ≡ slotErased (now (nand .entry)) (slotOf (self .oldest) slots)) × (r ≡ World.withoutOldest self live) ⌝ }
+        ensures { λ r. ⌜ (now (nand .exit) ≡ slotErased (now (nand .entry)) (slotOf (self .oldest) slots))
+            × (r ≡ World.withoutOldest self live) ⌝ }
     {
         let slot = flash::slot_of(self.oldest, slots);
         flash::erase_slot(nand, slot);

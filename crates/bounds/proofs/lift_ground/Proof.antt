@@ -31,7 +31,8 @@ returns-2 c =
 returns-3 : tie.Need-returns-3
 returns-3 c =
     let l = c .before .before in
-    lift-backwards _ _ _ _ _ (l .before .before .time-ok .ensures) (l .before .if1 .left) _ (loaded l) (c .before .if2 .left) (omega arith)
+    lift-backwards _ _ _ _ _ (l .before .before .time-ok .ensures) (l .before .if1 .left) _ (loaded l) (c .before .if2 .left)
+    (omega arith)
 
 sub-if4 : tie.Need-sub-if4
 sub-if4 c = search needs
@@ -39,13 +40,15 @@ sub-if4 c = search needs
 returns-4 : tie.Need-returns-4
 returns-4 c =
     let l = c .before .before .before in
-    lift-last _ _ _ _ _ (l .before .before .time-ok .ensures) (l .before .if1 .left) _ (loaded l) (c .before .before .if2 .left) (omega arith)
+    lift-last _ _ _ _ _ (l .before .before .time-ok .ensures) (l .before .if1 .left) _ (loaded l) (c .before .before .if2 .left)
+    (omega arith)
     (omega arith)
 
 returns-5 : tie.Need-returns-5
 returns-5 c =
     let l = c .before .before .before in
-    lift-good _ _ _ _ _ (l .before .before .time-ok .ensures) (l .before .if1 .left) _ (loaded l) (c .before .before .if2 .left) (omega arith)
+    lift-good _ _ _ _ _ (l .before .before .time-ok .ensures) (l .before .if1 .left) _ (loaded l) (c .before .before .if2 .left)
+    (omega arith)
     (omega arith)
 
 pub lift-ground-spec : {M : Type 1} → statement M

@@ -35,7 +35,8 @@ loaded : (c : tie.After-load-ok Inv-loop μ-loop)
     → c .load-ok .result ≡ loadOk (getD (c .before .before .before .before .args .t1) (c .before .before .before .loop .i) (pos 0))
 loaded c =
     let l = c .before .before .before in
-    let e : toZ w32 (ofZ w32 (getD (l .before .args .t1) (l .loop .i) (pos 0))) ≡ getD (l .before .args .t1) (l .loop .i) (pos 0) = search needs in
+    let e : toZ w32 (ofZ w32 (getD (l .before .args .t1) (l .loop .i) (pos 0))) ≡ getD (l .before .args .t1) (l .loop .i)
+    (pos 0) = search needs in
     c .load-ok .ensures ∙ ap loadOk e
 
 returns : tie.Need-returns Inv-loop μ-loop
@@ -53,8 +54,11 @@ loop-less c = search needs
 loop-again : tie.Need-loop-again Inv-loop μ-loop
 loop-again c =
     let l = c .before .before .before .before in
-    let long : length (l .before .args .t1) ≡ 13 = search needs in
-    (search needs, loads-more (l .before .args .t1) (l .loop .i) (omega arith) _ (loaded (c .before)) (c .if1 .left) ∙ l .loop .inv .1)
+    let long : length (l .before .args .t1) ≡ 13 = search needs in (
+      search needs,
+      loads-more (l .before .args .t1) (l .loop .i) (omega arith) _ (loaded (c .before)) (c .if1 .left)
+          ∙ l .loop .inv .1,
+    )
 
 returns-2 : tie.Need-returns-2 Inv-loop μ-loop
 returns-2 c =

@@ -38,14 +38,16 @@ returns-2 : tie.Need-returns-2
 returns-2 c =
     let l = c .before in
     let t = l .before .before in
-    query-heavy _ _ _ _ _ _ (t .before .before .time-ok .ensures) (t .before .time-ok2 .ensures) (t .if1 .left) _ _ (first l) (second l) (c .if2 .taken)
+    query-heavy _ _ _ _ _ _ (t .before .before .time-ok .ensures) (t .before .time-ok2 .ensures) (t .if1 .left) _ _ (first l)
+    (second l) (c .if2 .taken)
 
 returns-3 : tie.Need-returns-3
 returns-3 c =
     let l = c .before .before in
     let t = l .before .before in
     let a = t .before .before .before in
-    query-backwards _ _ _ _ _ _ (t .before .before .time-ok .ensures) (t .before .time-ok2 .ensures) (t .if1 .left) _ _ (first l) (second l) (c .before .if2 .left)
+    query-backwards _ _ _ _ _ _ (t .before .before .time-ok .ensures) (t .before .time-ok2 .ensures) (t .if1 .left) _ _ (first l)
+    (second l) (c .before .if2 .left)
     (rw (toZ-ofZ w32 (a .args .k2) (a .fits .k2), toZ-ofZ w32 (a .args .k1) (a .fits .k1)) at (c .if3 .taken))
 
 returns-4 : tie.Need-returns-4
@@ -53,7 +55,8 @@ returns-4 c =
     let l = c .before .before in
     let t = l .before .before in
     let a = t .before .before .before in
-    query-good _ _ _ _ _ _ (t .before .before .time-ok .ensures) (t .before .time-ok2 .ensures) (t .if1 .left) _ _ (first l) (second l) (c .before .if2 .left)
+    query-good _ _ _ _ _ _ (t .before .before .time-ok .ensures) (t .before .time-ok2 .ensures) (t .if1 .left) _ _ (first l)
+    (second l) (c .before .if2 .left)
     (rw (toZ-ofZ w32 (a .args .k2) (a .fits .k2), toZ-ofZ w32 (a .args .k1) (a .fits .k1)) at (c .if3 .left))
 
 pub query-ground-spec : {M : Type 1} → statement M

@@ -48,11 +48,13 @@ loop-again c =
     let a = l .before .args in
     let e : toZ w32 (ofZ w32 (getD (a .t1) (l .loop .i + 1) (pos 0))) ≡ getD (a .t1) (l .loop .i + 1) (pos 0) = search needs in
     let long : length (a .t1) ≡ 13 = search needs in
-    let same : length (l .loop .l) ≡ length (shifted (a .t1) (toZ w32 (ofZ w32 (a .load)))) = rw length-shifted (l .loop .inv .1 .0) in (
+    let same : length (l .loop .l) ≡ length (shifted (a .t1) (toZ w32 (ofZ w32 (a .load)))) = rw length-shifted
+    (l .loop .inv .1 .0) in (
       search needs,
       (
         simp length-set (l .loop .inv .1 .0),
-        rw e (filled-more (l .loop .l) _ (l .loop .i) _ (pos 0) (omega arith) same (shifted-at _ _ (l .loop .i) long (omega arith)) (l .loop .inv .1 .1)),
+        rw e (filled-more (l .loop .l) _ (l .loop .i) _ (pos 0) (omega arith) same (shifted-at _ _ (l .loop .i) long (omega arith))
+            (l .loop .inv .1 .1)),
       ),
     )
 
@@ -68,7 +70,8 @@ returns c =
     let long : length (a .t1) ≡ 13 = search needs in
     let same : length (l .loop .l) ≡ length (shifted (a .t1) x) = rw length-shifted (l .loop .inv .1 .0) in
     let i : l .loop .i ≡ 12 = omega arith in
-    let end = filled-more (l .loop .l) (shifted (a .t1) x) 12 x (pos 0) (omega arith) same (shifted-last _ _ long) (rw i at (l .loop .inv .1 .1)) in
+    let end = filled-more (l .loop .l) (shifted (a .t1) x) 12 x (pos 0) (omega arith) same (shifted-last _ _ long)
+    (rw i at (l .loop .inv .1 .1)) in
     let long' : length (set (l .loop .l) 12 x) ≡ 13 = simp length-set (l .loop .inv .1 .0) in
     filled-all _ _ 13 long' (length-shifted (a .t1) x long) end ∙ ap (shifted (a .t1)) e
 

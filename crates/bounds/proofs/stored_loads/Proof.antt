@@ -32,7 +32,8 @@ stored-requires : tie.Need-stored-requires Inv-loop μ-loop
 stored-requires c κs =
     let l = c .before .before in
     let long : length (l .before .args .t1) ≡ 13 = search needs in
-    let e : toZ w32 (ofZ w32 (getD (l .before .args .t1) (l .loop .i) (pos 0))) ≡ getD (l .before .args .t1) (l .loop .i) (pos 0) = search needs in
+    let e : toZ w32 (ofZ w32 (getD (l .before .args .t1) (l .loop .i) (pos 0))) ≡ getD (l .before .args .t1) (l .loop .i)
+    (pos 0) = search needs in
     ap loadOk e ∙ load-within (l .before .args .t1) (l .loop .i) (omega arith) (l .before .pre)
 
 mul-c : tie.Need-mul-c Inv-loop μ-loop
@@ -51,7 +52,8 @@ loop-again : tie.Need-loop-again Inv-loop μ-loop
 loop-again c =
     let l = c .before .before .before in
     let long : length (l .before .args .t1) ≡ 13 = search needs in
-    let e : toZ w32 (ofZ w32 (getD (l .before .args .t1) (l .loop .i) (pos 0))) ≡ getD (l .before .args .t1) (l .loop .i) (pos 0) = search needs in (
+    let e : toZ w32 (ofZ w32 (getD (l .before .args .t1) (l .loop .i) (pos 0))) ≡ getD (l .before .args .t1) (l .loop .i)
+    (pos 0) = search needs in (
       search needs,
       (
         simp length-set (l .loop .inv .1 .0),

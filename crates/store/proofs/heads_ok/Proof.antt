@@ -35,7 +35,8 @@ returns c =
     let s = c .before .before .before in
     let a = s .before .before .before .before .before .args in
     let long : length (a .t1) ≡ 4 = search needs in
-    four-heads _ (a .t1) _ _ _ _ _ long (s .in-slots .ensures) (c .before .before .in-slots2 .ensures) (c .before .in-slots3 .ensures) (c .in-slots4 .ensures)
+    four-heads _ (a .t1) _ _ _ _ _ long (s .in-slots .ensures) (c .before .before .in-slots2 .ensures)
+    (c .before .in-slots3 .ensures) (c .in-slots4 .ensures)
 
 pub heads-ok-spec : {M : Type 1} → statement M
 heads-ok-spec =

@@ -6,10 +6,9 @@ use mir.ValLaws.{toZ-ofZ}
 use Rattle.lift.specs.Limits.{loadOk, stored}
 use Rattle.grow.specs.Meaning.{meaning}
 use Rattle.bounds.proofs.Within.{Liftable, lift-within}
-use Rattle.store.specs.World.{world}
-use Rattle.store.specs.Pieces.{entryGround, carriedOut}
+use Rattle.store.specs.Pieces.{entryGround}
 use Rattle.store.proofs.Grounds.{standing}
-use Rattle.store.proofs.Appended.{Entered, entered, append-early, append-later, append-done}
+use Rattle.store.proofs.Appended.{entry-of, Entered, entered, append-early, append-later, append-done}
 use native.Mathlib.Omega.{arith}
 use borrow.Author.Needs.{needs}
 use Rattle.store.proofs.State.append.Statement.{statement}
@@ -18,14 +17,13 @@ use Rattle.store.proofs.State.append.Tie as tie
 entry-ground-requires : tie.Need-entry-ground-requires
 entry-ground-requires c κs = search needs
 
--- what entry_ground judges, of the load itself
+-- what `entry_ground` judges, of the load itself
 judged : (c : tie.After-entry-ground)
-    → let a = c .before .before .before .args in c .entry-ground .result ≡ entryGround (a .self) (length (a .nand .now)) (length (a .nor .now)) (a .slots) (a .time) (a .load)
+    → let a = c .before .before .before .args in c .entry-ground .result ≡ entryGround (a .self) (length (a .nand .now))
+    (length (a .nor .now)) (a .slots) (a .time) (a .load)
 judged c =
     let s = c .before .before .before in
-    let a = s .args in
-    c .entry-ground .ensures
-    ∙ ap (entryGround (a .self) (length (a .nand .now)) (length (a .nor .now)) (a .slots) (a .time)) (toZ-ofZ w32 (a .load) (s .fits .load))
+    entry-of _ _ _ _ _ _ (s .args .load) _ (toZ-ofZ w32 (s .args .load) (s .fits .load)) (c .entry-ground .ensures)
 
 returns : tie.Need-returns
 returns c =
@@ -37,10 +35,12 @@ zero : (c : tie.Else1) → c .before .entry-ground .result ≡ 0
 zero c = omega (arith, c .if1 .left)
 
 enters : (c : tie.Else1)
-    → let a = c .before .before .before .before .args in Entered (a .self) (length (a .nand .now)) (length (a .nor .now)) (a .slots) (a .time) (a .load)
+    → let a = c .before .before .before .before .args in Entered (a .self) (length (a .nand .now)) (length (a .nor .now))
+    (a .slots) (a .time) (a .load)
 enters c = entered _ _ _ _ _ _ (sym (judged (c .before)) ∙ zero c)
 
-lifts : (c : tie.Else1) → let a = c .before .before .before .before .args in Liftable (a .time) (a .load) (a .self .next) (a .self .current)
+lifts : (c : tie.Else1) → let a =
+    c .before .before .before .before .args in Liftable (a .time) (a .load) (a .self .next) (a .self .current)
 lifts c = lift-within _ _ _ _ (enters c .lift)
 
 coded : (c : tie.After-stored) → c .stored .result ≡ stored (c .before .before .before .before .before .args .load)
@@ -73,7 +73,8 @@ returns-2 c =
     let n = c .before .before .before .before .before .before .before in
     let k = coded (c .before .before .before .before .before .before) in
     let a = c .before .before .before .before .before .before .before .before .before .before .before .args in
-    append-later (a .nand .now) (a .nor .now) (a .self) (a .slots) (a .time) (a .load) _ _ (judged (n .before)) (zero n) (meaning (c .before .before .before .before .plan .result))
+    append-later (a .nand .now) (a .nor .now) (a .self) (a .slots) (a .time) (a .load) _ _ (judged (n .before)) (zero n)
+    (meaning (c .before .before .before .before .plan .result))
     (c .before .before .before .before .plan .ensures .0 (a .load) k) _ (c .before .blocked .ensures (a .load) k) (c .if2 .taken)
 
 carried-out-requires : tie.Need-carried-out-requires
@@ -97,11 +98,12 @@ returns-3 c =
     let s = c .before .before .before .before .before .before .before .before .before .before .before .before .before .before .before .before .before .before in
     let a = s .args in
     let p = c .before .before .before .before .before .before .before .before .before .before .before .plan in
-    let load = toZ-ofZ w32 (a .load) (s .fits .load) in
-    append-done (a .nand .now) (a .nor .now) (a .self) (a .slots) (a .time) (a .load) (a .note) _ (judged (n .before)) (zero n) (meaning (p .result))
-    (p .ensures .0 (a .load) k) _ (c .before .before .before .before .before .before .before .before .blocked .ensures (a .load) k) _ _ _ (omega (arith, c .before .before .before .before .before .before .before .if2 .left))
-    (c .before .before .before .before .carried-out .ensures
-    ∙ ap (λ z. carriedOut (world (a .nand .now) (a .nor .now) (a .self)) (a .slots) (a .time) z (a .note) (meaning (p .result))) load)
+    append-done (a .nand .now) (a .nor .now) (a .self) (a .slots) (a .time) (a .load) (a .note) _ (judged (n .before)) (zero n)
+    (meaning (p .result))
+    (p .ensures .0 (a .load) k) _ (c .before .before .before .before .before .before .before .before .blocked .ensures (a .load) k)
+    _ _ _ _ (toZ-ofZ w32 (a .load) (s .fits .load))
+    (omega (arith, c .before .before .before .before .before .before .before .if2 .left))
+    (c .before .before .before .before .carried-out .ensures)
 
 pub append-spec : {M : Type 1} → statement M
 append-spec =

@@ -27,13 +27,17 @@ pages-erased-requires c κs =
 returns-2 : tie.Need-returns-2
 returns-2 c =
     λ nor load size.
-    ap (λ b. ground 11 b 0) (sym (c .if2 .taken)) ∙ close-blocked _ nor _ _ load size _ (c .before .before .before .before .closing-good .ensures nor size) _ _ (c .before .before .before .if1 .left) (c .before .before .slot-of .ensures .0)
+    ap (λ b. ground 11 b 0) (sym (c .if2 .taken)) ∙ close-blocked _ nor _ _ load size _
+    (c .before .before .before .before .closing-good .ensures nor size) _ _ (c .before .before .before .if1 .left)
+    (c .before .before .slot-of .ensures .0)
     (c .before .pages-erased .ensures)
 
 returns-3 : tie.Need-returns-3
 returns-3 c =
     λ nor load size.
-    ap (λ b. ground 11 b 0) (sym (c .if2 .left)) ∙ close-blocked _ nor _ _ load size _ (c .before .before .before .before .closing-good .ensures nor size) _ _ (c .before .before .before .if1 .left) (c .before .before .slot-of .ensures .0)
+    ap (λ b. ground 11 b 0) (sym (c .if2 .left)) ∙ close-blocked _ nor _ _ load size _
+    (c .before .before .before .before .closing-good .ensures nor size) _ _ (c .before .before .before .if1 .left)
+    (c .before .before .slot-of .ensures .0)
     (c .before .pages-erased .ensures)
 
 pub blocked-closing-spec : {M : Type 1} → statement M

@@ -24,7 +24,8 @@ returns c =
     let s = c .before .before .before .before .before in
     let a = s .args in
     λ load e.
-    put-damaged (a .nand .now) (a .nor .now) (a .self) (a .slots) load _ (s .pre .1 .0) (s .pre .1 .1) _ _ (c .before .before .drop-good .ensures) (c .before .is-clear .ensures load e)
+    put-damaged (a .nand .now) (a .nor .now) (a .self) (a .slots) load _ (s .pre .1 .0) (s .pre .1 .1) _ _
+    (c .before .before .drop-good .ensures) (c .before .is-clear .ensures load e)
     (c .if1 .taken)
 
 slot-of-requires : tie.Need-slot-of-requires
@@ -43,7 +44,8 @@ returns-2 c =
     let a = s .args in
     λ load e.
     ap (λ b. ground 11 b 0) (sym (c .if2 .taken))
-    ∙ put-unerased (a .nand .now) (a .nor .now) (a .self) (a .slots) load (meaning (a .p)) (s .pre .1 .0) (s .pre .1 .1) _ _ (c .before .before .before .before .before .drop-good .ensures) (c .before .before .before .before .is-clear .ensures load e)
+    ∙ put-unerased (a .nand .now) (a .nor .now) (a .self) (a .slots) load (meaning (a .p)) (s .pre .1 .0) (s .pre .1 .1) _ _
+    (c .before .before .before .before .before .drop-good .ensures) (c .before .before .before .before .is-clear .ensures load e)
     _ _ (c .before .before .before .if1 .left) (c .before .before .slot-of .ensures .0) (c .before .page-free .ensures)
 
 returns-3 : tie.Need-returns-3
@@ -52,7 +54,8 @@ returns-3 c =
     let a = s .args in
     λ load e.
     ap (λ b. ground 11 b 0) (sym (c .if2 .left))
-    ∙ put-unerased (a .nand .now) (a .nor .now) (a .self) (a .slots) load (meaning (a .p)) (s .pre .1 .0) (s .pre .1 .1) _ _ (c .before .before .before .before .before .drop-good .ensures) (c .before .before .before .before .is-clear .ensures load e)
+    ∙ put-unerased (a .nand .now) (a .nor .now) (a .self) (a .slots) load (meaning (a .p)) (s .pre .1 .0) (s .pre .1 .1) _ _
+    (c .before .before .before .before .before .drop-good .ensures) (c .before .before .before .before .is-clear .ensures load e)
     _ _ (c .before .before .before .if1 .left) (c .before .before .slot-of .ensures .0) (c .before .page-free .ensures)
 
 pub blocked-put-spec : {M : Type 1} → statement M

@@ -21,7 +21,8 @@ zero : (c : tie.Else1) → c .before .ground .result ≡ 0
 zero c = omega (arith, c .if1 .left)
 
 stand : (c : tie.Else1)
-    → let a = c .before .before .before .before .args in Standing (a .self) (length (a .nand .now)) (length (a .nor .now)) (a .slots)
+    → let a = c .before .before .before .before .args in Standing (a .self) (length (a .nand .now)) (length (a .nor .now))
+    (a .slots)
 stand c = standing _ _ _ _ (sym (c .before .ground .ensures) ∙ zero c)
 
 returns-2 : tie.Need-returns-2

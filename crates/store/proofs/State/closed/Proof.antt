@@ -55,7 +55,8 @@ returns : tie.Need-returns
 returns c =
     let p = c .before .before .before .before .before .before .before in
     let s = p .before .before .before in
-    closed-made _ _ _ _ _ _ _ _ _ (s .before .slot-of .ensures .0) (s .closing .ensures) (p .program-pages .ensures) (c .before .before .before .erase-chip .ensures)
+    closed-made _ _ _ _ _ _ _ _ _ (s .before .slot-of .ensures .0) (s .closing .ensures) (p .program-pages .ensures)
+    (c .before .before .before .erase-chip .ensures)
     (c .moved-on .ensures)
 
 pub closed-spec : {M : Type 1} → statement M

@@ -1,13 +1,11 @@
 -- `closing_good`: fewer segments than slots, the header to be programmed, or one in another slot.
-use mathlib.Core.List.{List}
-use Prim.Native.Nat.{ℕ, _+_, _-_, _≤_}
+use Rattle.store.proofs.Forced.{forced-own, forced-other, kept-all}
+use Prim.Native.Nat.{_-_}
 use lib.ListN.{length, length-map}
-use Rattle.segment.specs.Header.{headerPage, headerIn}
 use mathlib.Core.Path.{_≡_, sym, ap, _∙_}
 use Rattle.segment.specs.declared.Closing.{Closing}
 use Rattle.store.specs.World.{closing}
 use Rattle.store.proofs.Grounds.{standing}
-use Rattle.store.proofs.Forced.{kept-all, forced-reads, header-own, header-other}
 use native.Mathlib.Omega.{arith}
 use borrow.Author.Needs.{needs}
 use Rattle.store.proofs.State.closing_good.Statement.{statement}
@@ -66,15 +64,11 @@ returns-2 : tie.Need-returns-2
 returns-2 c =
     let s = c .before .before .before .before .before .before .before .before .before in
     let a = s .args in
-    let held : a .slots ≤ a .self .current + 1 - a .self .oldest = c .before .before .before .before .before .if1 .left in
-    let four = heads-four s in
-    let page = page-size s in
-    let section = bloom-size s in
     λ nor size.
-    forced-reads (a .nand .now) nor (a .self) (a .slots) (s .pre .0) (s .pre .1) size held _
-    (c .header-in .ensures ∙ ap (λ (h : List ℕ). headerIn h (a .slots) (a .self .current + 1))
-    (c .before .before .header-page .ensures ∙ ap headerPage (c .before .before .before .closing .ensures)
-    ∙ sym (header-own (a .nand .now) nor (a .self) (a .slots) (s .pre .0) (s .pre .1) size held four page section (c .before .before .before .before .if2 .taken))))
+    forced-own (a .nand .now) nor (a .self) (a .slots) (s .pre .0) (s .pre .1) size
+    (c .before .before .before .before .before .if1 .left) (heads-four s) (page-size s) (bloom-size s) _ _ _
+    (c .before .before .before .before .if2 .taken) (c .before .before .before .closing .ensures)
+    (c .before .before .header-page .ensures) (c .header-in .ensures)
 
 add-header-of : tie.Need-add-header-of
 add-header-of c =
@@ -90,14 +84,10 @@ returns-3 : tie.Need-returns-3
 returns-3 c =
     let s = c .before .before .before .before .before .before .before in
     let a = s .args in
-    let held : a .slots ≤ a .self .current + 1 - a .self .oldest = c .before .before .before .if1 .left in
-    let four = heads-four s in
-    let page = page-size s in
-    let section = bloom-size s in
     λ nor size.
-    forced-reads (a .nand .now) nor (a .self) (a .slots) (s .pre .0) (s .pre .1) size held _
-    (c .header-of .ensures ∙ ap (λ (h : List ℕ). headerIn h (a .slots) (a .self .current + 1))
-    (sym (header-other (a .nand .now) nor (a .self) (a .slots) (s .pre .0) (s .pre .1) size held four page section (c .before .before .if2 .left))))
+    forced-other (a .nand .now) nor (a .self) (a .slots) (s .pre .0) (s .pre .1) size (c .before .before .before .if1 .left)
+    (heads-four s) (page-size s) (bloom-size s) _
+    (c .before .before .if2 .left) (c .header-of .ensures)
 
 pub closing-good-spec : {M : Type 1} → statement M
 closing-good-spec =

@@ -21,7 +21,8 @@ zero : (c : tie.Else1) → c .before .ground .result ≡ 0
 zero c = omega (arith, c .if1 .left)
 
 stand : (c : tie.Else1)
-    → let a = c .before .before .before .before .args in Standing (a .self) (length (a .nand .now)) (length (a .nor .now)) (a .slots)
+    → let a = c .before .before .before .before .args in Standing (a .self) (length (a .nand .now)) (length (a .nor .now))
+    (a .slots)
 stand c = standing _ _ _ _ (sym (c .before .ground .ensures) ∙ zero c)
 
 returns-2 : tie.Need-returns-2
@@ -43,7 +44,8 @@ returns-3 c =
     let l = c .before .before .before in
     let n = l .before .before in
     let a = n .before .before .before .before .args in
-    drop-damaged (a .nand .now) (a .nor .now) _ _ _ (n .before .ground .ensures) (zero n) _ (c .before .renewal .ensures) (l .if2 .left) (c .if3 .taken)
+    drop-damaged (a .nand .now) (a .nor .now) _ _ _ (n .before .ground .ensures) (zero n) _ (c .before .renewal .ensures)
+    (l .if2 .left) (c .if3 .taken)
 
 dropped-requires : tie.Need-dropped-requires
 dropped-requires c κs =
@@ -61,7 +63,8 @@ returns-4 c =
     let l = e .before .before .before in
     let n = l .before .before in
     let a = n .before .before .before .before .args in
-    drop-done (a .nand .now) (a .nor .now) _ _ _ (n .before .ground .ensures) (zero n) _ (e .before .renewal .ensures) (l .if2 .left) _ _ (e .if3 .left)
+    drop-done (a .nand .now) (a .nor .now) _ _ _ (n .before .ground .ensures) (zero n) _ (e .before .renewal .ensures)
+    (l .if2 .left) _ _ (e .if3 .left)
     (d .dropped .ensures .0) (d .dropped .ensures .1)
 
 pub drop-spec : {M : Type 1} → statement M

@@ -19,7 +19,8 @@ same-length c = search needs
 
 returns : tie.Need-returns
 unfolding withoutOldest
-returns c = (rw (← c .before .before .before .before .before .slot-of .ensures .0) (c .before .before .before .erase-slot .ensures), refl)
+returns c =
+    (rw (← c .before .before .before .before .before .slot-of .ensures .0) (c .before .before .before .erase-slot .ensures), refl)
 
 pub dropped-spec : {M : Type 1} → statement M
 dropped-spec =

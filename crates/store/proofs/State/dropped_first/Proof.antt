@@ -15,14 +15,19 @@ returns c =
 renewal-requires : tie.Need-renewal-requires
 renewal-requires c κs =
     let s = c .before .before .before .before in
-    let a = s .args in
-    (s .pre .0, s .pre .1, drops-some (a .nand .now) (a .self) (a .slots) _ (c .before .before .drops-first .ensures) (c .before .if1 .left) (s .pre .1))
+    let a = s .args in (
+      s .pre .0,
+      s .pre .1,
+      drops-some (a .nand .now) (a .self) (a .slots) _ (c .before .before .drops-first .ensures)
+          (c .before .if1 .left) (s .pre .1),
+    )
 
 dropped-requires : tie.Need-dropped-requires
 dropped-requires c κs =
     let s = c .before .before .before .before .before .before in
     let a = s .args in
-    let d = drops-some (a .nand .now) (a .self) (a .slots) _ (c .before .before .before .before .drops-first .ensures) (c .before .before .before .if1 .left) (s .pre .1) in
+    let d = drops-some (a .nand .now) (a .self) (a .slots) _ (c .before .before .before .before .drops-first .ensures)
+    (c .before .before .before .if1 .left) (s .pre .1) in
     (s .pre .0, s .pre .1, s .pre .2, d)
 
 same-length : tie.Need-same-length

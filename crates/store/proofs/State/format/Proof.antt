@@ -14,7 +14,8 @@ new-requires c κs = search needs
 returns : tie.Need-returns
 returns c =
     let a = c .before .before .before .before .before .args in
-    format-refused (a .nand .now) (a .nor .now) _ _ _ (c .before .before .chips-ground .ensures) (c .before .new .ensures) (c .if1 .taken)
+    format-refused (a .nand .now) (a .nor .now) _ _ _ (c .before .before .chips-ground .ensures) (c .before .new .ensures)
+    (c .if1 .taken)
 
 erase-chip-requires : tie.Need-erase-chip-requires
 erase-chip-requires c κs = search needs
@@ -33,7 +34,8 @@ returns-2 c =
     let e = c .before .before .before .before .before .before in
     let t = e .before .before in
     let a = t .before .before .before .before .before .args in
-    format-done (a .nand .now) (a .nor .now) _ _ _ (t .before .before .chips-ground .ensures) (t .before .new .ensures) _ _ (omega (arith, t .if1 .left))
+    format-done (a .nand .now) (a .nor .now) _ _ _ (t .before .before .chips-ground .ensures) (t .before .new .ensures) _ _
+    (omega (arith, t .if1 .left))
     (e .erase-chip .ensures) (c .before .before .erase-chip2 .ensures)
 
 pub format-spec : {M : Type 1} → statement M

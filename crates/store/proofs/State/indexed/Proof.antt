@@ -26,7 +26,8 @@ returns c =
     let w = c .before .before .before .before .before .before .before .before .before .before .writes-of .ensures .0 in
     let f = c .before .before .before .before .note .ensures in
     let p = c .before .before .section-after .ensures in (
-      λ load k. indexed-nor (s .args .self) 0 (s .args .code) load [] k _ _ (s .args .nor .now) _ _ _ w (c .before .before .before .before .before .before .before .before .carry .ensures) f (p .0),
+      λ load k. indexed-nor (s .args .self) 0 (s .args .code) load [] k _ _ (s .args .nor .now) _ _ _ w
+          (c .before .before .before .before .before .before .before .before .carry .ensures) f (p .0),
       λ load k. indexed-section (s .args .self) 0 (s .args .code) load [] k _ _ f (p .1),
     )
 

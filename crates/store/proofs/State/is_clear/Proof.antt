@@ -1,7 +1,4 @@
 -- `is_clear`: the tree's bytes, then the section's.
-use mathlib.Core.Path.{ap, _∙_}
-use Rattle.tree.specs.Writes.{writesOf}
-use Rattle.grow.specs.Meaning.{meaning}
 use Rattle.store.proofs.Parts.{clear-all}
 use borrow.Author.Needs.{needs}
 use Rattle.store.proofs.State.is_clear.Statement.{statement}
@@ -18,9 +15,10 @@ section-clear-requires c κs = search needs
 
 returns : tie.Need-returns
 returns c =
-    let s = c .before .before .before .before in
-    λ load e. clear-all (s .args .self) (s .args .nor .now) _ load _ _ _ (c .before .before .writes-of .ensures .0 ∙ ap (λ n. writesOf (meaning (s .args .p)) (s .args .self .buckets) n (s .args .self .count)) e)
-    (c .before .clear .ensures) (c .section-clear .ensures)
+    let a = c .before .before .before .before .args in
+    λ load e.
+    clear-all (a .self) (a .nor .now) _ _ load _ _ _ e (c .before .before .writes-of .ensures .0) (c .before .clear .ensures)
+    (c .section-clear .ensures)
 
 pub is-clear-spec : {M : Type 1} → statement M
 is-clear-spec =

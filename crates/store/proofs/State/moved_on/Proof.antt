@@ -31,7 +31,8 @@ add-self c = search needs
 returns : tie.Need-returns
 returns c =
     let l = c .before .before .before .before in
-    moved-made _ _ _ _ _ _ _ _ (l .before .before .level-of .ensures .0) (l .before .new .ensures) (l .heads-after .ensures) (c .before .before .before .no-loads .ensures)
+    moved-made _ _ _ _ _ _ _ _ (l .before .before .level-of .ensures .0) (l .before .new .ensures) (l .heads-after .ensures)
+    (c .before .before .before .no-loads .ensures)
     (c .before .before .blank-page .ensures) (c .before .empty-section .ensures)
 
 pub moved-on-spec : {M : Type 1} → statement M

@@ -17,7 +17,9 @@ empty-section-requires : tie.Need-empty-section-requires
 empty-section-requires c κs = search needs
 
 returns : tie.Need-returns
-returns c = formatted-made _ _ _ _ (c .before .before .before .no-heads .ensures) (c .before .before .no-loads .ensures) (c .before .blank-page .ensures) (c .empty-section .ensures)
+returns c =
+    formatted-made _ _ _ _ (c .before .before .before .no-heads .ensures) (c .before .before .no-loads .ensures)
+    (c .before .blank-page .ensures) (c .empty-section .ensures)
 
 pub new-spec : {M : Type 1} → statement M
 new-spec =

@@ -25,7 +25,8 @@ returns c =
     let l = c .before .before .stored-loads .ensures in
     let is = c .plan-for .ensures .0 in (
       planned (s .args .self) (s .args .nor .now) tree _ (s .args .code) (c .plan-for .result) t l is,
-      suited (s .args .self) (s .args .nor .now) tree _ (s .args .code) (c .plan-for .result) t l is (s .pre .2) (c .plan-for .ensures .1),
+      suited (s .args .self) (s .args .nor .now) tree _ (s .args .code) (c .plan-for .result) t l is (s .pre .2)
+          (c .plan-for .ensures .1),
     )
 
 pub plan-spec : {M : Type 1} → statement M

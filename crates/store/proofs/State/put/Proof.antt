@@ -4,7 +4,6 @@ use mir.ValLaws.{toZ-ofZ}
 use Rattle.lift.specs.Limits.{stored}
 use Rattle.lift.proofs.Codes.{within-limits}
 use Rattle.grow.specs.Meaning.{meaning}
-use Rattle.store.specs.Pieces.{stateGiven}
 use Rattle.store.proofs.Parts.{put-made}
 use native.Mathlib.Omega.{arith}
 use borrow.Author.Needs.{needs}
@@ -20,7 +19,8 @@ recorded-requires c κs = search needs
 indexed-requires : tie.Need-indexed-requires
 indexed-requires c κs =
     let s = c .before .before .before .before .before .before .before .before in
-    let code = c .before .before .before .before .before .stored .ensures ∙ ap stored (toZ-ofZ w32 (s .args .load) (s .fits .load)) in
+    let code = c .before .before .before .before .before .stored .ensures
+    ∙ ap stored (toZ-ofZ w32 (s .args .load) (s .fits .load)) in
     let n = s .pre .1 .0 in
     (s .pre .0 .1, n .1, n .0, n .2, omega (arith, within-limits (s .args .load) (s .pre .1 .1 .1) .low, code))
 
@@ -41,12 +41,13 @@ returns c =
     let s = c .before .before .before .before .before .before .before .before .before .before .before .before .before in
     let a = s .args in
     let load = toZ-ofZ w32 (a .load) (s .fits .load) in
-    let code = c .before .before .before .before .before .before .before .before .before .before .stored .ensures ∙ ap stored load in
+    let code = c .before .before .before .before .before .before .before .before .before .before .stored .ensures
+    ∙ ap stored load in
     let r = c .before .before .before .before .before .before .before .before .recorded .ensures in
     let i = c .before .before .before .before .indexed .ensures in
-    put-made (a .nand .now) (a .nor .now) _ _ (a .self) _ (a .slots) (a .time) (a .load) _ (meaning (a .p)) _ _ _ (r .0 (a .load) code) (i .0 (a .load) code)
-    (r .1 (a .load) code) (i .1 (a .load) code) (c .before .buckets-after .ensures)
-    (c .counted .ensures ∙ ap (λ z. stateGiven (a .self) (a .time) z (c .before .buckets-after .result) (c .before .before .before .before .before .before .before .before .recorded .result) (c .before .before .before .before .indexed .result)) load)
+    put-made (a .nand .now) (a .nor .now) _ _ (a .self) _ (a .slots) (a .time) _ (a .load) _ (meaning (a .p)) _ _ _ load
+    (r .0 (a .load) code)
+    (i .0 (a .load) code) (r .1 (a .load) code) (i .1 (a .load) code) (c .before .buckets-after .ensures) (c .counted .ensures)
 
 pub put-spec : {M : Type 1} → statement M
 put-spec =

@@ -24,12 +24,14 @@ returns : tie.Need-returns
 returns c =
     let f = c .before .before .before .before .before .before .before .before .is-full .ensures in
     let a = c .before .before .before .before .before .before .before .before .before .before .before .args in
-    room-closed (world (a .nand .now) (a .nor .now) (a .self)) _ _ _ _ f (c .before .before .before .before .before .before .before .if1 .taken) (c .before .before .before .before .closed .ensures)
+    room-closed (world (a .nand .now) (a .nor .now) (a .self)) _ _ _ _ f
+    (c .before .before .before .before .before .before .before .if1 .taken) (c .before .before .before .before .closed .ensures)
 
 returns-2 : tie.Need-returns-2
 returns-2 c =
     let a = c .before .before .before .before .args in
-    room-kept (world (a .nand .now) (a .nor .now) (a .self)) (world (a .nand .now) (a .nor .now) (a .self)) _ _ _ (c .before .is-full .ensures) (c .if1 .left)
+    room-kept (world (a .nand .now) (a .nor .now) (a .self)) (world (a .nand .now) (a .nor .now) (a .self)) _ _ _
+    (c .before .is-full .ensures) (c .if1 .left)
 
 pub room-spec : {M : Type 1} → statement M
 room-spec =

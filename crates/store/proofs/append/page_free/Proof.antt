@@ -18,7 +18,8 @@ is-erased-requires c κs = search needs
 returns-2 : tie.Need-returns-2
 returns-2 c =
     let a = c .before .before .before .args in
-    asked (a .count % 16) 15 (pageErased (a .nand .now) (a .slot) (a .count / 16)) _ (omega (arith, c .before .if1 .left)) (c .is-erased .ensures)
+    asked (a .count % 16) 15 (pageErased (a .nand .now) (a .slot) (a .count / 16)) _ (omega (arith, c .before .if1 .left))
+    (c .is-erased .ensures)
 
 pub page-free-spec : {M : Type 1} → statement M
 page-free-spec = tie.close (tie.spec returns is-erased-requires returns-2)

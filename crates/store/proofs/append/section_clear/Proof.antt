@@ -24,7 +24,8 @@ all-ones-requires c κs = search needs
 returns-2 : tie.Need-returns-2
 returns-2 c =
     let a = c .before .before .before .args in
-    asked-or (a .count % 64) 63 (allOnes (part (a .nor .now) (4608 + a .count / 64 * 128) 128)) _ (omega (arith, c .before .if1 .left)) (c .all-ones .ensures)
+    asked-or (a .count % 64) 63 (allOnes (part (a .nor .now) (4608 + a .count / 64 * 128) 128)) _
+    (omega (arith, c .before .if1 .left)) (c .all-ones .ensures)
 
 pub section-clear-spec : {M : Type 1} → statement M
 section-clear-spec =
