@@ -3,7 +3,7 @@ use mathlib.Core.Bool.{Bool, true, false, cond, not, _&&_, _||_}
 use mathlib.Core.List.{List, [], _∷_, map}
 use Prim.Native.Nat.{ℕ}
 use lib.Dec.{eqb, leb, ltb}
-use lib.IntN.{ℤ}
+use lib.IntN.{ℤ, pos, negsuc}
 use lib.ListN.{length}
 use lib.Signed.{ltZ}
 use Rattle.lift.specs.Limits.{timeOk, loadOk}
@@ -64,6 +64,13 @@ stepped g c = cond (eqb (numberOf g c) 0) (after g c) g
 
 unfoldable pub answered : Log → Call → Answer
 answered g c = record { number = numberOf g c; rows = cond (eqb (numberOf g c) 0) (rowsOf g c) [] }
+
+-- a tally "counts what a search over all loads finds, and refuses as that would, ground 12 aside": as a search with room for all that it finds
+abbrev pub allLoads : Log → ℕ → ℕ → List Lift
+allLoads g t1 t2 = found g t1 t2 (negsuc 49999) (pos 100000)
+
+unfoldable pub tallyNumber : Log → ℕ → ℕ → ℕ → ℕ
+tallyNumber g slots t1 t2 = numberOf g (search slots t1 t2 (negsuc 49999) (pos 100000) (length (allLoads g t1 t2)))
 
 -- the log after a list of calls, and what each returned
 unfoldable pub logAfter : Log → List Call → Log

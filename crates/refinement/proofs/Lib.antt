@@ -32,3 +32,4 @@ pub mod SkipWalk
 pub mod SearchFound
 pub mod SearchStep
 pub mod TallyFound
+pub mod Demands

@@ -55,6 +55,7 @@ module _ (h : History) (g : Good h) (k t1 t2 : ℕ) (k1 k2 : ℤ) where
   pub found-if : windowGround h k t1 t2 k1 k2 ≡ 0
       → foundRows (image h .nand) (image h .nor) (image h .state .page) (logOf (image h .state) k) (queryOf t1 t2 k1 k2)
       ≡ some (map rowOf (found (h .log) t1 t2 k1 k2))
+  unfolding queryGround
   found-if e =
       let a = first-zero 0 (not (eqb k (h .log .slots))) _ e in
       let b = first-zero 3 (not (timeOk t1 && timeOk t2)) _ (a .1) in
@@ -78,7 +79,7 @@ module _ (h : History) (g : Good h) (k t1 t2 : ℕ) (k1 k2 : ℤ) where
     isFull = ltb (length area / 32) (length (found (h .log) t1 t2 k1 k2))
 
     number-is : number ≡ cond (eqb window 0) (Paper.ground 12 isFull 0) window
-    unfolding Paper.numberOf
+    unfolding Paper.numberOf queryGround
     number-is =
         last-ground (not (eqb k (h .log .slots))) (not (timeOk t1 && timeOk t2)) (not (loadOk k1 && loadOk k2)) (ltb t2 t1 || ltZ k2 k1)
         (Paper.ground 12 isFull 0)
@@ -107,18 +108,3 @@ module _ (h : History) (g : Good h) (k t1 t2 : ℕ) (k1 k2 : ℤ) where
             ≡ replyOf (cond t (Paper.ground 12 isFull 0) window)
         go true e = rw (found-if (eqb-true window 0 e)) answer-is
         go false e = rw e
-
-    -- the same by the paper log's answer
-    pub search-answered : searched (searchOutcome (image h) k t1 t2 k1 k2 area) ≡ record {
-      number = Paper.answered (h .log) (callOf (Run.search k t1 t2 k1 k2 area)) .number;
-      count = length (Paper.answered (h .log) (callOf (Run.search k t1 t2 k1 k2 area)) .rows);
-      area = splice area 0 (rowBytes (Paper.answered (h .log) (callOf (Run.search k t1 t2 k1 k2 area)) .rows));
-    }
-    unfolding Paper.answered Paper.rowsOf splice rowBytes
-    search-answered = search-step ∙ go number (eqb number 0)
-      where
-        go : (n : ℕ) (t : Bool) → _≡_ {A = Reply}
-            (record { number = n; count = cond t (length (found (h .log) t1 t2 k1 k2)) 0; area = cond t (splice area 0 (rowBytes rows)) area })
-            (record { number = n; count = length (cond t rows []); area = splice area 0 (rowBytes (cond t rows [])) })
-        go n true = rw (length-map (found (h .log) t1 t2 k1 k2) rowOf)
-        go n false = refl

@@ -18,7 +18,9 @@ use Rattle.lift.proofs.Records.{length-record, record-read}
 use Rattle.plate.specs.Plate.{noCounts, countsOf}
 use Rattle.search.specs.Answers.{TallyAnswer, tallyAnswer, rowCodes}
 use Rattle.search.specs.Found.{foundRows}
+use Rattle.bounds.specs.Grounds.{queryGround}
 use Rattle.store.specs.Queries.{logOf, queryOf, tallyOutcome}
+use Rattle.paper_log.specs.Calls as Paper
 use Rattle.paper_log.specs.Log.{Lift, codes, wanted, among, joined, found, rowOf}
 use Rattle.refinement.specs.Image.{History, image}
 use Rattle.refinement.proofs.Good.{GoodLift, GoodLifts, AllBuilt, Good}
@@ -76,7 +78,7 @@ module _ (h : History) (g : Good h) (k t1 t2 : ℕ) where
   window = windowGround h k t1 t2 (negsuc 49999) (pos 100000)
 
   -- it "refuses as that would, ground 12 aside"
-  pub tally-step : tallyOutcome (image h) k t1 t2
+  tally-step : tallyOutcome (image h) k t1 t2
       ≡ cond (eqb (windowGround h k t1 t2 (negsuc 49999) (pos 100000)) 0)
       (record { number = 0; counts = countsOf (codes (found (h .log) t1 t2 (negsuc 49999) (pos 100000))) })
       (record { number = windowGround h k t1 t2 (negsuc 49999) (pos 100000); counts = noCounts })
@@ -93,7 +95,24 @@ module _ (h : History) (g : Good h) (k t1 t2 : ℕ) where
           (row-codes (found (h .log) t1 t2 allLow allHigh) (good-found h g t1 t2 allLow allHigh)))
       go false e = refl
 
-  -- a window that is accepted
-  pub tally-found : k ≡ h .log .slots → t1 ≤ t2 → t2 ≤ 999999999999999
-      → tallyOutcome (image h) k t1 t2 ≡ record { number = 0; counts = countsOf (codes (found (h .log) t1 t2 (negsuc 49999) (pos 100000))) }
-  tally-found e l m = tally-step ∙ rw (eq-eqb k (h .log .slots) e, le-leb t1 999999999999999 (omega arith), le-leb t2 999999999999999 m, le-ltb t2 t1 l)
+-- ---- by the paper log's number
+
+tally-number : (h : History) (k t1 t2 : ℕ) → Paper.tallyNumber (h .log) k t1 t2 ≡ windowGround h k t1 t2 (negsuc 49999) (pos 100000)
+unfolding Paper.tallyNumber Paper.numberOf queryGround
+tally-number h k t1 t2 =
+    let n : ℕ = length (found (h .log) t1 t2 (negsuc 49999) (pos 100000)) in
+    rw (le-ltb n n (omega arith))
+
+pub tally-is : (h : History) → Good h → (k t1 t2 : ℕ) → tallyOutcome (image h) k t1 t2 ≡ record {
+  number = Paper.tallyNumber (h .log) k t1 t2;
+  counts = cond (eqb (Paper.tallyNumber (h .log) k t1 t2) 0) (countsOf (codes (Paper.allLoads (h .log) t1 t2))) noCounts;
+}
+tally-is h g k t1 t2 = rw (tally-number h k t1 t2) (tally-step h g k t1 t2 ∙ go (windowGround h k t1 t2 (negsuc 49999) (pos 100000)) _ refl)
+  where
+    cs : List ℕ
+    cs = countsOf (codes (Paper.allLoads (h .log) t1 t2))
+
+    go : (n : ℕ) (t : Bool) → eqb n 0 ≡ t → _≡_ {A = TallyAnswer} (cond t (record { number = 0; counts = cs }) (record { number = n; counts = noCounts }))
+        (record { number = n; counts = cond t cs noCounts })
+    go n true e = ap {B = TallyAnswer} (λ (m : ℕ). record { number = m; counts = cs }) (sym (eqb-true n 0 e))
+    go n false e = refl

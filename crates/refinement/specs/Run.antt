@@ -1,7 +1,7 @@
 -- Lists of calls on the store, each given the state and chips that the last one left, and the same calls as the paper log gets them.
 -- Assumes nothing.
 use mathlib.Core.Path.{_≡_}
-use mathlib.Core.Bool.{Bool, cond}
+use mathlib.Core.Bool.{Bool, false, cond, _||_}
 use mathlib.Core.List.{List, [], _∷_}
 use Prim.Native.Nat.{ℕ, _/_, _<_}
 use lib.Dec.{eqb}
@@ -91,3 +91,8 @@ Typed (search slots t1 t2 k1 k2 area) = Unit {0}
 abbrev pub AllTyped : List Request → Type 0
 AllTyped [] = Unit {0}
 AllTyped (r ∷ rs) = Typed r × AllTyped rs
+
+-- "damage and unerased pages are never reported": no reply has number 10 or 11
+abbrev pub NeverDamage : List Reply → Type 0
+NeverDamage [] = Unit {0}
+NeverDamage (a ∷ rest) = ((eqb (a .number) 10 || eqb (a .number) 11) ≡ false) × NeverDamage rest

@@ -1,0 +1,173 @@
+-- The demands, over every list of calls after an accepted format, whatever the chips held before. The world after the format is the image of
+-- the history that has begun, and each call leads from a good history's image to the next one's. Assumes nothing.
+use mathlib.Core.Path.{_≡_, refl, sym, ap, ap₂, subst, _∙_}
+use mathlib.Core.Bool.{Bool, true, false, cond, not, _&&_, _||_}
+use mathlib.Core.List.{List, [], _∷_, map}
+use Prim.Native.Nat.{ℕ, suc, _*_, _/_, _≤_, _<_}
+use native.Mathlib.Omega.{arith}
+use lib.Dec.{eqb, leb, ltb}
+use lib.IntN.{ℤ, pos, negsuc}
+use lib.ListN.{length}
+use lib.Signed.{ltZ}
+use borrow.Author.Tests.{le-ltb, eqb-true}
+use Rattle.lift.specs.Limits.{timeOk, loadOk}
+use Rattle.plate.specs.Plate.{noCounts, countsOf}
+use Rattle.bounds.specs.Grounds.{queryGround}
+use Rattle.search.specs.Answers.{TallyAnswer}
+use Rattle.store.specs.World.{World}
+use Rattle.store.specs.Calls.{Outcome, formatOutcome}
+use Rattle.store.specs.Queries.{tallyOutcome}
+use Rattle.paper_log.specs.Log.{Lift, Log, begun, openSerial, codes, found, isFull, closeLog, dropLog, roomLog, shedLog, putLog, appendLog}
+use Rattle.paper_log.specs.Calls as Paper
+use Rattle.refinement.specs.Image.{History, stateImage, image}
+use Rattle.refinement.specs.Run.{Request, append, close, drop, search, callOf, Reply, replies, runAfter, expected, expectedAll, AllTyped, NeverDamage}
+use Rattle.refinement.specs.Rules.{AllKept}
+use Rattle.refinement.specs.ReadBack.{segmentsIn}
+use Rattle.refinement.proofs.Good.{Good}
+use Rattle.refinement.proofs.Begun.{begunHistory, good-begun, format-world}
+use Rattle.refinement.proofs.Reached.{Reached, reached}
+use Rattle.refinement.proofs.AllCalls.{replies-are}
+use Rattle.refinement.proofs.EachCall.{all-kept}
+use Rattle.refinement.proofs.ReadBack.{segments-read}
+use Rattle.refinement.proofs.TallyFound.{tally-is}
+
+-- ---- the paper log has no ground 10 and no ground 11
+
+record Fair (n : ℕ) : Type 0 where
+  is : (eqb n 10 || eqb n 11) ≡ false
+
+fair-two : (a b : Bool) → Fair (Paper.ground 1 a (Paper.ground 9 b 0))
+fair-two true b = record { is = refl }
+fair-two false true = record { is = refl }
+fair-two false false = record { is = refl }
+
+fair-five : (m n : ℕ) → Fair m → Fair n → (a b c d e : Bool)
+    → Fair (Paper.ground 1 a (Paper.ground 4 b (Paper.ground 5 c (Paper.ground m d (Paper.ground n e 0)))))
+fair-five m n x y true b c d e = record { is = refl }
+fair-five m n x y false true c d e = record { is = refl }
+fair-five m n x y false false true d e = record { is = refl }
+fair-five m n x y false false false true e = x
+fair-five m n x y false false false false true = y
+fair-five m n x y false false false false false = record { is = refl }
+
+fair-number : (g : Log) (r : Request) → Fair (Paper.numberOf g (callOf r))
+unfolding Paper.numberOf
+fair-number g (append k time load note) =
+    fair-five 7 8 (record { is = refl }) (record { is = refl }) (not (eqb k (g .slots))) (not (timeOk time)) (not (loadOk load)) (ltb time (g .next))
+    (leb 999999998 (openSerial g))
+fair-number g (close k) = fair-two (not (eqb k (g .slots))) (eqb (length (g .current)) 0)
+fair-number g (drop k) = fair-two (not (eqb k (g .slots))) (eqb (length (g .closed)) 0)
+fair-number g (search k t1 t2 k1 k2 area) =
+    fair-five 6 12 (record { is = refl }) (record { is = refl }) (not (eqb k (g .slots))) (not (timeOk t1 && timeOk t2)) (not (loadOk k1 && loadOk k2))
+    (ltb t2 t1 || ltZ k2 k1) (ltb (length area / 32) (length (found g t1 t2 k1 k2)))
+
+number-expected : (a : Paper.Answer) (r : Request) → expected a r .number ≡ a .number
+unfolding expected
+number-expected a (append k time load note) = refl
+number-expected a (close k) = refl
+number-expected a (drop k) = refl
+number-expected a (search k t1 t2 k1 k2 area) = refl
+
+fair-all : (rs : List Request) (g : Log) → NeverDamage (expectedAll (Paper.answers g (map callOf rs)) rs)
+unfolding expectedAll Paper.answers Paper.answered
+fair-all [] g = tt
+fair-all (r ∷ rs) g =
+    (subst Fair (sym (number-expected (Paper.answered g (callOf r)) r)) (fair-number g r) .is, fair-all rs (Paper.stepped g (callOf r)))
+
+-- ---- S stays
+
+after-slots : (g : Log) (c : Paper.Call) → Paper.after g c .slots ≡ g .slots
+unfolding Paper.after appendLog putLog shedLog roomLog closeLog dropLog
+after-slots g (Paper.append k l) =
+    shed (roomLog g (l .load)) (leb (roomLog g (l .load) .slots) (length (roomLog g (l .load) .closed))) ∙ room (isFull (g .current) (l .load))
+  where
+    shed : (r : Log) (t : Bool) → cond t (dropLog r) r .slots ≡ r .slots
+    shed r true = refl
+    shed r false = refl
+
+    room : (t : Bool) → cond t (closeLog g) g .slots ≡ g .slots
+    room true = refl
+    room false = refl
+after-slots g (Paper.close k) = refl
+after-slots g (Paper.drop k) = refl
+after-slots g (Paper.search k t1 t2 k1 k2 rows) = refl
+
+slots-kept : (cs : List Paper.Call) (g : Log) → Paper.logAfter g cs .slots ≡ g .slots
+unfolding Paper.logAfter Paper.stepped
+slots-kept [] g = refl
+slots-kept (c ∷ cs) g = slots-kept cs (Paper.stepped g c) ∙ go (eqb (Paper.numberOf g c) 0)
+  where
+    go : (t : Bool) → cond t (Paper.after g c) g .slots ≡ g .slots
+    go true = after-slots g c
+    go false = refl
+
+-- ---- the same for every store that was formatted
+
+module _ (slots : ℕ) (least : 2 ≤ slots) (most : slots ≤ 4096) (nand nor : List ℕ) (nand-size : length nand ≡ slots * 16384) (nor-size : length nor ≡ 6144) where
+  formatted : formatOutcome nand nor slots ≡ record { number = 0; world = image (begunHistory slots) }
+  formatted = format-world slots least most nand nor nand-size nor-size
+
+  -- the format is accepted
+  pub format-accepted : formatOutcome nand nor slots .number ≡ 0
+  format-accepted = ap (λ (o : Outcome). o .number) formatted
+
+  world-begun : formatOutcome nand nor slots .world ≡ image (begunHistory slots)
+  world-begun = ap (λ (o : Outcome). o .world) formatted
+
+  begun-good : Good (begunHistory slots)
+  begun-good = good-begun slots least most
+
+  module _ (rs : List Request) (typed : AllTyped rs) where
+    -- every call of the list answers as the paper log does
+    pub store-is-paper-log : replies (formatOutcome nand nor slots .world) rs ≡ expectedAll (Paper.answers (begun slots) (map callOf rs)) rs
+    store-is-paper-log = ap (λ (w : World). replies w rs) world-begun ∙ replies-are rs (begunHistory slots) begun-good typed
+
+    -- damage and unerased pages are never reported
+    pub never-damage : NeverDamage (replies (formatOutcome nand nor slots .world) rs)
+    never-damage = subst NeverDamage (sym store-is-paper-log) (fair-all rs (begun slots))
+
+    -- what each call changes of the chips
+    pub chips-kept : AllKept (formatOutcome nand nor slots .world) (begun slots) rs
+    chips-kept = subst (λ (w : World). AllKept w (begun slots) rs) (sym world-begun) (all-kept rs (begunHistory slots) begun-good typed)
+
+    here : Reached (runAfter (formatOutcome nand nor slots .world) rs) (Paper.logAfter (begun slots) (map callOf rs))
+    here =
+        subst (λ (w : World). Reached (runAfter w rs) (Paper.logAfter (begun slots) (map callOf rs))) (sym world-begun)
+        (reached rs (begunHistory slots) begun-good typed)
+
+    abbrev at-end : World
+    at-end = runAfter (formatOutcome nand nor slots .world) rs
+
+    abbrev log-end : Log
+    log-end = Paper.logAfter (begun slots) (map callOf rs)
+
+    begun-slots : begun slots .slots ≡ slots
+    unfolding begun
+    begun-slots = refl
+
+    same-slots : here .history .log .slots ≡ slots
+    same-slots = ap (λ (l : Log). l .slots) (here .log) ∙ slots-kept (map callOf rs) (begun slots) ∙ begun-slots
+
+    -- the state's serials are the paper log's
+    pub serials-kept : (at-end .state .oldest ≡ log-end .oldest) × (at-end .state .current ≡ openSerial log-end)
+    unfolding image stateImage
+    serials-kept =
+        (ap (λ (w : World). w .state .oldest) (here .world) ∙ ap (λ (l : Log). l .oldest) (here .log),
+        ap (λ (w : World). w .state .current) (here .world) ∙ ap openSerial (here .log))
+
+    -- every retained closed segment reads back as the lifts that went in, in order
+    pub segments-read-back : segmentsIn at-end slots ≡ log-end .closed
+    segments-read-back =
+        ap₂ {C = List (List Lift)} segmentsIn (here .world) (sym same-slots) ∙ segments-read (here .history) (here .good) ∙ ap (λ (l : Log). l .closed) (here .log)
+
+    -- a tally counts, by plate, what the paper log's search over all loads finds
+    pub tally-counts : (k t1 t2 : ℕ) → tallyOutcome at-end k t1 t2 ≡ record {
+      number = Paper.tallyNumber log-end k t1 t2;
+      counts = cond (eqb (Paper.tallyNumber log-end k t1 t2) 0) (countsOf (codes (Paper.allLoads log-end t1 t2))) noCounts;
+    }
+    tally-counts k t1 t2 =
+        ap (λ (w : World). tallyOutcome w k t1 t2) (here .world) ∙ tally-is (here .history) (here .good) k t1 t2
+        ∙ ap {B = TallyAnswer} (λ (l : Log). record {
+          number = Paper.tallyNumber l k t1 t2;
+          counts = cond (eqb (Paper.tallyNumber l k t1 t2) 0) (countsOf (codes (Paper.allLoads l t1 t2))) noCounts;
+        }) (here .log)
