@@ -2,15 +2,13 @@
 -- places, lowest first, are the lifts in order of arrival. Assumes nothing.
 use mathlib.Core.Path.{_≡_, refl, sym, ap, ap₂, _∙_}
 use mathlib.Core.Bool.{Bool, true, false, cond, _&&_}
-use mathlib.Core.Option.{Option, none, some}
-use mathlib.Core.List.{List, [], _∷_, _++_, map}
-use Prim.Native.Nat.{ℕ, zero, suc, _+_, _-_, _*_, _/_, _≤_, _<_}
+use mathlib.Core.Option.{Option, some}
+use mathlib.Core.List.{List, [], _∷_, map}
+use Prim.Native.Nat.{ℕ, zero, suc, _+_, _*_, _/_, _≤_, _<_}
 use native.Mathlib.Omega.{arith}
-use native.Mathlib.Decide.{decLt}
-use lib.Dec.{eqb, leb, ltb}
+use lib.Dec.{eqb, ltb}
 use lib.IntN.{ℤ}
 use lib.ListN.{length, getD}
-use lib.Signed.{leZ}
 use borrow.Author.Tests.{lt-ltb, le-ltb, ne-eqb}
 use Rattle.flash.specs.Chip.{slotOf, pagesOf, norTree}
 use Rattle.lift.specs.Limits.{loadOk, stored}
@@ -27,12 +25,11 @@ use Rattle.tree.proofs.Swept.{sweep-built}
 use Rattle.tree.proofs.Written.{tree-of-nor}
 use Rattle.walk.specs.declared.Closed.{Closed}
 use Rattle.walk.specs.declared.Log.{Log}
-use Rattle.walk.specs.declared.Query.{Query}
 use Rattle.walk.specs.Visit.{timely, timed, matchesOf, rowsAt, closedMatches, closedRows, openMatches, openRows}
 use Rattle.store.specs.Queries.{queryOf}
 use Rattle.paper_log.specs.Log.{Lift, rowOf, codes, wanted, among}
 use Rattle.refinement.specs.Segments.{liftArea, pageBuffer, treeArea, bucketCount, norOf}
-use Rattle.refinement.proofs.Good.{GoodLifts, Built}
+use Rattle.refinement.proofs.Good.{Built}
 use Rattle.refinement.proofs.Lengths.{length-codes, good-loads}
 use Rattle.refinement.proofs.Wanted.{noLift}
 use Rattle.refinement.proofs.Records.{Reads, good-at, closed-reads}

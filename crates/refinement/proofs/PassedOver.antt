@@ -1,11 +1,11 @@
 -- A segment that a search passes over has no wanted lift: a wanted load lies in the span from low to high, and for equal loads no hash bit of it is
 -- clear in all sections. Assumes nothing.
-use mathlib.Core.Path.{_≡_, refl, sym, ap, _∙_}
-use mathlib.Core.Bool.{Bool, true, false, cond, not, _&&_, _||_}
-use mathlib.Core.List.{List, [], _∷_, _++_, map}
-use Prim.Native.Nat.{ℕ, zero, suc, _+_, _*_, _/_, _≤_, _<_}
+use mathlib.Core.Path.{_≡_, refl, sym, _∙_}
+use mathlib.Core.Bool.{Bool, true, false, cond, not, _&&_}
+use mathlib.Core.List.{List, [], _∷_, _++_}
+use Prim.Native.Nat.{ℕ, zero, suc, _≤_, _<_}
 use native.Mathlib.Omega.{arith}
-use lib.Dec.{leb, ltb}
+use lib.Dec.{ltb}
 use lib.IntN.{ℤ, pos, negsuc}
 use lib.ListN.{length, getD}
 use lib.Signed.{leZ, ltZ}
@@ -19,9 +19,9 @@ use Rattle.bloom.specs.Bloom.{mayHold}
 use Rattle.bloom.specs.Pages.{sectionCount, segmentSections, bloomPage, sectionsIn}
 use Rattle.bloom.proofs.Pages.{bloom-never-misses-in-pages}
 use Rattle.tree.specs.Search.{within}
+use Rattle.tree.proofs.Clears.{both}
 use Rattle.tree.proofs.Search.{within-sides}
 use Rattle.segment.specs.declared.Header.{Header}
-use Rattle.walk.specs.declared.Query.{Query}
 use Rattle.walk.specs.Visit.{timely, isPassed}
 use Rattle.store.specs.Queries.{queryOf}
 use Rattle.paper_log.specs.Log.{Lift, codes, wanted, among}
@@ -88,10 +88,6 @@ in-span (l ∷ ls) p g h = (low p h, high p h)
 
 -- ---- passed over
 
-and-left : (a b : Bool) → (a && b) ≡ true → a ≡ true
-and-left true b e = refl
-and-left false b e = e
-
 module _ (t1 t2 : ℕ) (k1 k2 : ℤ) (ok1 : loadOk k1 ≡ true) (ok2 : loadOk k2 ≡ true) (ls : List Lift) (b : Built ls) (nand : List ℕ) (slot : ℕ)
     (head : Header) (count : head .count ≡ length ls) (low : head .low ≡ stored (S.lowOf (S.loadsOf ls)))
     (high : head .high ≡ stored (S.highOf (S.loadsOf ls))) (second : List ℕ) (room : 512 ≤ length second)
@@ -103,8 +99,8 @@ module _ (t1 t2 : ℕ) (k1 k2 : ℤ) (ok1 : loadOk k1 ≡ true) (ok2 : loadOk k2
   in-range : (p : ℕ) → p < length ls → wanted t1 t2 k1 k2 (getD ls p noLift) ≡ true → (stored k1 ≤ load p) × (load p ≤ stored k2)
   in-range p h w =
       within-sides (stored k1) (stored k2) (load p)
-      (and-left (within (stored k1) (stored k2) (load p)) (timely (queryOf t1 t2 k1 k2) (getD ls p noLift .time))
-      (wanted-is t1 t2 k1 k2 ok1 ok2 (getD ls p noLift) (good-at ls p (b .lifts) h .load) ∙ w))
+      (both (within (stored k1) (stored k2) (load p)) (timely (queryOf t1 t2 k1 k2) (getD ls p noLift .time))
+      (wanted-is t1 t2 k1 k2 ok1 ok2 (getD ls p noLift) (good-at ls p (b .lifts) h .load) ∙ w) .0)
 
   held : (p : ℕ) → p < length ls → mayHold (sectionsIn (pagesOf nand slot 29 2) (sectionCount (length ls))) (load p) ≡ true
   held p h =

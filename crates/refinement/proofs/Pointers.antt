@@ -1,13 +1,13 @@
 -- Where a history's skip pointers lead: each is not live, or is that of a retained closed segment; one of level 1 is that of the last one before.
 -- By induction over the segments in order of closing. Assumes nothing.
 use mathlib.Core.Path.{_≡_, refl, sym, ap, subst, _∙_}
-use mathlib.Core.Bool.{Bool, true, false, not, _&&_}
+use mathlib.Core.Bool.{true, false, not}
 use mathlib.Core.List.{List, [], _∷_, _++_, map, append-assoc, append-nil}
 use Prim.Native.Nat.{ℕ, zero, suc, _+_, _≤_, _<_}
 use native.Mathlib.Decide.{decLt}
 use native.Mathlib.Nat.{le-refl}
 use native.Mathlib.Omega.{arith}
-use lib.Dec.{eqb, leb}
+use lib.Dec.{eqb}
 use lib.ListN.{length, getD, List·getD-eq-default}
 use borrow.Author.Tests.{lt-leb, le-leb, ne-eqb}
 use Rattle.flash.specs.Chip.{slotOf}
@@ -20,11 +20,12 @@ use Rattle.refinement.specs.Segments as S
 use Rattle.refinement.specs.Image.{History, oldestHeads, firstStart, liveOf}
 use Rattle.refinement.proofs.Good as G
 use Rattle.refinement.proofs.Good.{Times, Segments, Starts, Good}
-use Rattle.refinement.proofs.InBounds.{times-up, segments-up, starts-up, start-below}
+use Rattle.refinement.proofs.InBounds.{segments-up, starts-up, start-below}
 use Rattle.refinement.proofs.Slots.{slot-below}
 use Rattle.refinement.proofs.PageLengths.{four-after, four-heads, four-oldest}
 use Rattle.refinement.proofs.PageFrom.{headsAt}
-use Rattle.refinement.proofs.Retained.{Among, among, facts}
+use Rattle.refinement.proofs.Retained.{among}
+use Rattle.refinement.proofs.Drop.{no-right}
 use Rattle.refinement.proofs.OneMore.{length-snoc}
 
 -- the pointer to the closed segment behind these
@@ -40,10 +41,6 @@ pub data Leads (h : History) (b : List (List Lift)) (k : ℕ) (p : Pointer) : Ty
 level-least : (n : ℕ) → 1 ≤ levelOf n
 unfolding levelOf
 level-least n = omega arith
-
-no-right : (a b : Bool) → b ≡ false → (a && b) ≡ false
-no-right true b e = e
-no-right false b e = refl
 
 -- ---- one segment closed
 
@@ -167,5 +164,5 @@ module _ (h : History) (g : Good h) where
         ne-eqb (slotOf (h .log .oldest + length before) (h .log .slots)) 65535 (λ e. omega (arith, g .most)),
         is,
         le-leb _ _ (live-below before ls after (h .log .current) (h .log .next)
-        (subst (λ (c : List (List Lift)). Segments (g .before) c (g .begun)) is (g .closed))),
+            (subst (λ (c : List (List Lift)). Segments (g .before) c (g .begun)) is (g .closed))),
       )

@@ -2,8 +2,8 @@
 -- open one. Each place is a part of the segment's lift area. Assumes nothing.
 use mathlib.Core.Path.{_≡_, refl, sym, ap, _∙_}
 use mathlib.Core.Bool.{Bool, true, false, cond}
-use mathlib.Core.List.{List, [], _∷_, _++_, map}
-use Prim.Native.Nat.{ℕ, zero, suc, _+_, _-_, _*_, _/_, _%_, _^_, _≤_, _<_}
+use mathlib.Core.List.{List, [], _∷_, map}
+use Prim.Native.Nat.{ℕ, zero, suc, _+_, _-_, _*_, _/_, _%_, _≤_, _<_}
 use native.Mathlib.Omega.{arith}
 use lib.Dec.{ltb}
 use lib.ListN.{length, getD, length-map, List·getD-map}
@@ -17,7 +17,7 @@ use Rattle.lift.proofs.Codes.{within-limits}
 use Rattle.lift.proofs.Records.{Holds, record-read}
 use Rattle.segment.proofs.ReadBack.{part-in-page, page-in-pages}
 use Rattle.search.proofs.Rows.{row-at}
-use Rattle.paper_log.specs.Log.{Lift, Log, openSerial, rowOf}
+use Rattle.paper_log.specs.Log.{Lift, openSerial, rowOf}
 use Rattle.refinement.specs.Segments.{recordsOf, liftArea, liftPage, pageBuffer, openPage}
 use Rattle.refinement.specs.Image.{History, oldestHeads, nandImage}
 use Rattle.refinement.proofs.Good.{GoodLift, GoodLifts, Good}
@@ -107,20 +107,22 @@ module _ (ls : List Lift) (g : GoodLifts ls) where
             let e : p / 16 * 512 + p % 16 * 32 ≡ p * 32 = omega arith in
             let i : p / 16 < 20 = omega arith in
             let z : 0 + p / 16 ≡ p / 16 = omega arith in
-            let l = length-part nand (pageStart slot 0) 10240 (omega arith) in
-            (omega arith,
-            ap (λ (b : ℕ). part (pagesOf nand slot 0 20) b 32) (sym e)
-            ∙ part-in-page nand slot 0 20 (p / 16) (p % 16 * 32) 32 room (omega arith) i (omega arith)
-            ∙ ap (λ (b : ℕ). part (pageOf nand slot b) (p % 16 * 32) 32) z
-            ∙ ap (λ (page : List ℕ). part page (p % 16 * 32) 32) (pages (omega arith) (p / 16) i ∙ rw (lt-ltb (p / 16) (length ls / 16) (omega arith)))
-            ∙ row-in-page (p / 16) (p % 16 * 32) p h e (omega arith) i)
+            let l = length-part nand (pageStart slot 0) 10240 (omega arith) in (
+              omega arith,
+              ap (λ (b : ℕ). part (pagesOf nand slot 0 20) b 32) (sym e)
+                  ∙ part-in-page nand slot 0 20 (p / 16) (p % 16 * 32) 32 room (omega arith) i (omega arith)
+                  ∙ ap (λ (b : ℕ). part (pageOf nand slot b) (p % 16 * 32) 32) z
+                  ∙ ap (λ (page : List ℕ). part page (p % 16 * 32) 32) (pages (omega arith) (p / 16) i ∙ rw (lt-ltb (p / 16) (length ls / 16) (omega arith)))
+                  ∙ row-in-page (p / 16) (p % 16 * 32) p h e (omega arith) i,
+            )
 
         rest : (p : ℕ) → p < length ls → length ls / 16 * 16 ≤ p → Stands (pageBuffer ls) ((p - length ls / 16 * 16) * 32) p
         rest p h q =
-            let i : length ls / 16 < 20 = omega arith in
-            (omega (arith, length-pageBuffer ls g),
-            ap (λ (page : List ℕ). part page ((p - length ls / 16 * 16) * 32) 32) (buffer-page ls g i)
-            ∙ row-in-page (length ls / 16) ((p - length ls / 16 * 16) * 32) p h (omega arith) (omega arith) i)
+            let i : length ls / 16 < 20 = omega arith in (
+              omega (arith, length-pageBuffer ls g),
+              ap (λ (page : List ℕ). part page ((p - length ls / 16 * 16) * 32) 32) (buffer-page ls g i)
+                  ∙ row-in-page (length ls / 16) ((p - length ls / 16 * 16) * 32) p h (omega arith) (omega arith) i,
+            )
 
 -- ---- the open segment of a history
 

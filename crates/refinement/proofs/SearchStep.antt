@@ -13,6 +13,7 @@ use borrow.Author.Tests.{eqb-true}
 use Rattle.codec.specs.Area.{splice}
 use Rattle.bounds.specs.Grounds.{queryGround}
 use Rattle.lift.specs.Limits.{timeOk, loadOk}
+use Rattle.tree.proofs.Clears.{both}
 use Rattle.search.specs.Answers.{searchAnswer, rowBytes}
 use Rattle.search.specs.Found.{foundRows}
 use Rattle.store.specs.Queries.{logOf, queryOf, searchGround, searchOutcome}
@@ -24,7 +25,7 @@ use Rattle.refinement.specs.Run.{Reply, searched, callOf}
 use Rattle.refinement.proofs.Good.{Good}
 use Rattle.refinement.proofs.Grounds.{state-passes}
 use Rattle.refinement.proofs.Steps.{first-zero, passed}
-use Rattle.refinement.proofs.SearchFound.{both-true, search-found}
+use Rattle.refinement.proofs.SearchFound.{search-found}
 
 -- ---- the numbers
 
@@ -59,7 +60,7 @@ module _ (h : History) (g : Good h) (k t1 t2 : ℕ) (k1 k2 : ℤ) where
       let a = first-zero 0 (not (eqb k (h .log .slots))) _ e in
       let b = first-zero 3 (not (timeOk t1 && timeOk t2)) _ (a .1) in
       let c = first-zero 4 (not (loadOk k1 && loadOk k2)) _ (b .1) in
-      let ok = both-true (loadOk k1) (loadOk k2) (passed _ (c .0)) in
+      let ok = both (loadOk k1) (loadOk k2) (passed _ (c .0)) in
       let s : k ≡ h .log .slots = eqb-true k (h .log .slots) (passed _ (a .0)) in
       rw s (search-found h g t1 t2 k1 k2 (ok .0) (ok .1))
 

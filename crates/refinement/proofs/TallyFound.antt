@@ -1,17 +1,15 @@
 -- A tally on a history's world counts, by plate, the lifts that the paper log's search over all loads finds: each found row has its lift's stored
 -- load. Assumes nothing.
-use mathlib.Core.Path.{_≡_, refl, sym, ap, ap₂, _∙_}
-use mathlib.Core.Bool.{Bool, true, false, cond, not, _&&_, _||_}
-use mathlib.Core.Option.{some}
+use mathlib.Core.Path.{_≡_, refl, ap, ap₂, _∙_}
+use mathlib.Core.Bool.{Bool, true, false, cond}
 use mathlib.Core.List.{List, [], _∷_, _++_, map}
-use Prim.Native.Nat.{ℕ, _+_, _^_, _≤_, _<_}
+use Prim.Native.Nat.{ℕ, _≤_}
 use native.Mathlib.Omega.{arith}
-use lib.Dec.{eqb, ltb}
+use lib.Dec.{eqb}
 use lib.IntN.{ℤ, pos, negsuc}
-use lib.ListN.{length}
 use borrow.Author.Tests.{eqb-true, eq-eqb, le-leb, le-ltb}
 use Rattle.codec.proofs.Areas.{part-all}
-use Rattle.lift.specs.Limits.{timeOk, stored}
+use Rattle.lift.specs.Limits.{stored}
 use Rattle.lift.specs.Record.{codeAt}
 use Rattle.lift.proofs.Codes.{within-limits}
 use Rattle.lift.proofs.Records.{length-record, record-read}
