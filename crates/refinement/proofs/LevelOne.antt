@@ -1,5 +1,5 @@
--- Level 1 from a segment on gives the rows of all wanted lifts up to it, older ones first: each pointer leads to the segment before, and where a start
--- ≤ t1 has been done all older lifts are earlier. By induction on the steps. Assumes nothing.
+-- Level 1 from a segment on gives the rows of all wanted lifts up to it, older ones first: each pointer leads to the segment
+-- before, and where a start ≤ t1 has been done all older lifts are earlier. By induction on the steps. Assumes nothing.
 use mathlib.Core.Path.{_≡_, refl, sym, ap, _∙_}
 use mathlib.Core.Bool.{Bool, true, false, cond, not, _||_}
 use mathlib.Core.Option.{Option, none, some}
@@ -94,13 +94,16 @@ module _ (h : History) (g : Good h) (before : List (List Lift)) (ls : List Lift)
     visited : closedRows (nandImage h) (closedOf slot header) (queryOf t1 t2 k1 k2) ≡ some (map rowOf (among t1 t2 k1 k2 ls))
     unfolding S.closingOf
     visited =
-        closed-rows t1 t2 k1 k2 ok1 ok2 ls (built h g before ls after is) (nandImage h) (closedOf slot header) lift-pages tree-pages refl refl
+        closed-rows t1 t2 k1 k2 ok1 ok2 ls (built h g before ls after is) (nandImage h)
+        (closedOf slot header) lift-pages tree-pages refl refl
 
     passed : isPassed (nandImage h) slot header (queryOf t1 t2 k1 k2) ≡ true → among t1 t2 k1 k2 ls ≡ []
     unfolding S.closingOf
     passed =
-        passed-none t1 t2 k1 k2 ok1 ok2 ls (built h g before ls after is) (nandImage h) slot header refl refl refl (pageOf (nandImage h) slot 30)
-        (omega (arith, ap length (page-of-nand h g slot 30 there (omega arith)), length-pageImage h g slot 30)) second-page bloom-pages
+        passed-none t1 t2 k1 k2 ok1 ok2 ls (built h g before ls after is) (nandImage h) slot header refl refl refl
+        (pageOf (nandImage h) slot 30)
+        (omega (arith, ap length (page-of-nand h g slot 30 there (omega arith)), length-pageImage h g slot 30))
+        second-page bloom-pages
 
 -- ---- from segment to segment
 
@@ -126,7 +129,12 @@ module _ (h : History) (g : Good h) (t1 t2 : ℕ) (k1 k2 : ℤ) (ok1 : loadOk k1
   -- what comes of a step, with n to go
   abbrev took : ℕ → Step → Option (List (List ℕ))
   took n s =
-      elim s [ | End ↦ some [] | Damage ↦ none | Pass d ↦ run n d | Visit s d ↦ joinRows (run n d) (closedRows (nandImage h) s q) ]
+      elim s [
+        | End ↦ some []
+        | Damage ↦ none
+        | Pass d ↦ run n d
+        | Visit s d ↦ joinRows (run n d) (closedRows (nandImage h) s q)
+      ]
 
   first-of : (n : ℕ) (c : Cursor) → run (suc n) c ≡ took n (advanced c)
   unfolding rowsFrom
@@ -137,7 +145,8 @@ module _ (h : History) (g : Good h) (t1 t2 : ℕ) (k1 k2 : ℤ) (ok1 : loadOk k1
   ends c e = rw e
 
   -- a retained segment, and those before it
-  module _ (before : List (List Lift)) (ls : List Lift) (after : List (List Lift)) (is : h .log .closed ≡ before ++ (ls ∷ after)) where
+  module _ (before : List (List Lift)) (ls : List Lift) (after : List (List Lift))
+      (is : h .log .closed ≡ before ++ (ls ∷ after)) where
     abbrev at : ℕ
     at = slot h g before ls after is
 
@@ -145,7 +154,8 @@ module _ (h : History) (g : Good h) (t1 t2 : ℕ) (k1 k2 : ℤ) (ok1 : loadOk k1
     head = header h g before ls after is
 
     goes : (c : Cursor) → c .last ≡ false → c .next ≡ pointerTo h before ls → h .log .oldest + length before < c .before
-        → advanced c ≡ cond (isPassed (nandImage h) at head q) (Pass (cursorAfter head q)) (Visit (closedOf at head) (cursorAfter head q))
+        → advanced c
+        ≡ cond (isPassed (nandImage h) at head q) (Pass (cursorAfter head q)) (Visit (closedOf at head) (cursorAfter head q))
     unfolding advanceOf
     goes c e p l = rw (e, p, live-retained h g before ls after is, retained-header h g before ls after is (c .before) l)
 
@@ -165,7 +175,8 @@ module _ (h : History) (g : Good h) (t1 t2 : ℕ) (k1 k2 : ℤ) (ok1 : loadOk k1
         (omega (arith, start-below ls (a .own) (a .some-lift), leb-true (S.startTime ls) t1 e)))
 
     taken : (n : ℕ) → Finds n → length before < n → (c : Cursor) → c .last ≡ false → c .next ≡ pointerTo h before ls
-        → h .log .oldest + length before < c .before → took n (advanced c) ≡ some (map rowOf (wantedIn before ++ among t1 t2 k1 k2 ls))
+        → h .log .oldest + length before < c .before
+        → took n (advanced c) ≡ some (map rowOf (wantedIn before ++ among t1 t2 k1 k2 ls))
     taken n f l c e p s = rw (goes c e p s) (go (isPassed (nandImage h) at head q) refl)
       where
         go : (t : Bool) → isPassed (nandImage h) at head q ≡ t

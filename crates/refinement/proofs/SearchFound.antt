@@ -1,4 +1,5 @@
--- On the world of a history a search finds exactly the paper log's lifts: the closed segments' in order, then the open one's. Assumes nothing.
+-- On the world of a history a search finds exactly the paper log's lifts: the closed segments' in order, then the open one's.
+-- Assumes nothing.
 use mathlib.Core.Path.{_≡_, refl, sym, ap, _∙_}
 use mathlib.Core.Bool.{Bool, true, false, cond, not, _&&_}
 use mathlib.Core.Option.{none, some}
@@ -63,7 +64,8 @@ module _ (h : History) (g : Good h) (t1 t2 : ℕ) (k1 k2 : ℤ) (ok1 : loadOk k1
     where
       all : closedLifts ≡ among t1 t2 k1 k2 (joined (r .older))
       all =
-          ap (λ (c : List (List Lift)). among t1 t2 k1 k2 (joined c)) (r .is) ∙ ap (among t1 t2 k1 k2) (joined-append (r .older) (r .skipped))
+          ap (λ (c : List (List Lift)). among t1 t2 k1 k2 (joined c)) (r .is)
+          ∙ ap (among t1 t2 k1 k2) (joined-append (r .older) (r .skipped))
           ∙ among-append t1 t2 k1 k2 (joined (r .older)) (joined (r .skipped))
           ∙ ap (λ (x : List Lift). among t1 t2 k1 k2 (joined (r .older)) ++ x) (r .unwanted) ∙ append-nil _
 
@@ -72,7 +74,11 @@ module _ (h : History) (g : Good h) (t1 t2 : ℕ) (k1 k2 : ℤ) (ok1 : loadOk k1
   all-early e =
       let b = both (not (eqb (length (h .log .current)) 0)) (leb (S.startTime (h .log .current)) t1) e in
       early-all t1 t2 k1 k2 (g .closed)
-      (omega (arith, start-below (h .log .current) (g .current) (some-lift (h .log .current) (b .0)) .0, leb-true (S.startTime (h .log .current)) t1 (b .1)))
+      (omega (
+        arith,
+        start-below (h .log .current) (g .current) (some-lift (h .log .current) (b .0)) .0,
+        leb-true (S.startTime (h .log .current)) t1 (b .1),
+      ))
     where
       some-lift : (ls : List Lift) → not (eqb (length ls) 0) ≡ true → 0 < length ls
       some-lift [] e = absurd (let z : _≡_ {A = ℕ} 0 1 = cc in omega arith)
@@ -83,14 +89,18 @@ module _ (h : History) (g : Good h) (t1 t2 : ℕ) (k1 k2 : ℤ) (ok1 : loadOk k1
   closed-found = go (not (eqb (length (h .log .current)) 0) && leb (S.startTime (h .log .current)) t1) refl
     where
       go : (t : Bool) → (not (eqb (length (h .log .current)) 0) && leb (S.startTime (h .log .current)) t1) ≡ t
-          → closedFound (nandImage h) log q (cond t done (reachedBy (skipWalk (nandImage h) log t2))) ≡ some (map rowOf closedLifts)
+          → closedFound (nandImage h) log q (cond t done (reachedBy (skipWalk (nandImage h) log t2)))
+          ≡ some (map rowOf closedLifts)
       go true e = ended done refl (openSerial (h .log)) ∙ ap (λ (x : List Lift). some (map rowOf x)) (sym (all-early e))
       go false e = walked (skipWalk (nandImage h) log t2) (walk-reaches h g t1 t2 k1 k2)
 
-  pub search-found : foundRows (image h .nand) (image h .nor) (image h .state .page) (logOf (image h .state) (h .log .slots)) (queryOf t1 t2 k1 k2)
-      ≡ some (map rowOf (found (h .log) t1 t2 k1 k2))
+  pub search-found : foundRows (image h .nand) (image h .nor) (image h .state .page) (logOf (image h .state) (h .log .slots))
+      (queryOf t1 t2 k1 k2) ≡ some (map rowOf (found (h .log) t1 t2 k1 k2))
   unfolding foundRows image stateImage found
   search-found =
-      rw (closed-found, open-rows t1 t2 k1 k2 ok1 ok2 (h .log .current) (g .segment) (nandImage h) log (current-reads h g) refl refl)
+      rw (
+        closed-found,
+        open-rows t1 t2 k1 k2 ok1 ok2 (h .log .current) (g .segment) (nandImage h) log (current-reads h g) refl refl,
+      )
       (ap some (sym (map-append rowOf closedLifts (among t1 t2 k1 k2 (h .log .current)))
       ∙ ap (map rowOf) (sym (among-append t1 t2 k1 k2 (joined (h .log .closed)) (h .log .current)))))

@@ -1,5 +1,5 @@
--- The skip walk ends in front of closed segments that have no wanted lift: each hop leads to a retained segment that starts after t2, so it and all
--- behind it are too late. By induction on the hops. Assumes nothing.
+-- The skip walk ends in front of closed segments that have no wanted lift: each hop leads to a retained segment that starts
+-- after t2, so it and all behind it are too late. By induction on the hops. Assumes nothing.
 use mathlib.Core.Path.{_≡_, refl, sym, ap, subst, _∙_}
 use mathlib.Core.Bool.{Bool, true, false, cond, _&&_}
 use mathlib.Core.List.{List, [], _∷_, _++_, append-assoc, append-nil}
@@ -50,7 +50,8 @@ module _ (h : History) (g : Good h) (t1 t2 : ℕ) (k1 k2 : ℤ) where
   At w = Reaches h t1 t2 k1 k2 w
 
   -- a retained segment that starts after t2
-  too-late : (before : List (List Lift)) (ls : List Lift) (after : List (List Lift)) → h .log .closed ≡ before ++ (ls ∷ after) → t2 < S.startTime ls
+  too-late : (before : List (List Lift)) (ls : List Lift) (after : List (List Lift)) → h .log .closed ≡ before ++ (ls ∷ after)
+      → t2 < S.startTime ls
       → among t1 t2 k1 k2 (joined (ls ∷ after)) ≡ []
   too-late before ls after is l =
       let a = facts h g before ls after is in
@@ -85,9 +86,11 @@ module _ (h : History) (g : Good h) (t1 t2 : ℕ) (k1 k2 : ℤ) where
           r .is ∙ ap (λ (x : List (List Lift)). x ++ r .skipped) eq ∙ append-assoc before (ls ∷ after) (r .skipped) in
           let n = ap length eq ∙ length-append before (ls ∷ after) in
           let late : t2 < S.startTime ls =
-          ltb-true t2 (S.startTime ls) (ap (λ (x : Pointer). ltb t2 (x .time)) (sym q) ∙ both (isLive p (liveOf (h .log))) (ltb t2 (p .time)) e .1) in
+          ltb-true t2 (S.startTime ls) (ap (λ (x : Pointer). ltb t2 (x .time)) (sym q)
+          ∙ both (isLive p (liveOf (h .log))) (ltb t2 (p .time)) e .1) in
           let read : headerAt (nandImage h) (h .log .slots) p (w .before)
-          ≡ headerOf (S.closingOf (h .log .oldest + length before) ls (headsAt (h .log .slots) (h .log .oldest) before (oldestHeads h))) true =
+          ≡ headerOf (S.closingOf (h .log .oldest + length before) ls
+          (headsAt (h .log .slots) (h .log .oldest) before (oldestHeads h))) true =
           ap (λ (x : Pointer). headerAt (nandImage h) (h .log .slots) x (w .before)) q
           ∙ retained-header h g before ls (after ++ r .skipped) there (w .before) (omega (arith, r .before)) in
           subst (λ (hd : Header). At (moved hd)) (sym read) (record {

@@ -1,5 +1,5 @@
--- A tally on a history's world counts, by plate, the lifts that the paper log's search over all loads finds: each found row has its lift's stored
--- load. Assumes nothing.
+-- A tally on a history's world counts, by plate, the lifts that the paper log's search over all loads finds: each found row has
+-- its lift's stored load. Assumes nothing.
 use mathlib.Core.Path.{_≡_, refl, ap, ap₂, _∙_}
 use mathlib.Core.Bool.{Bool, true, false, cond}
 use mathlib.Core.List.{List, [], _∷_, _++_, map}
@@ -54,7 +54,8 @@ row-code : (l : Lift) → GoodLift l → codeAt (rowOf l) 0 ≡ stored (l .load)
 row-code l g =
     let n = length-record (l .time) (stored (l .load)) (l .note) (g .note) in
     let k = within-limits (l .load) (g .load) in
-    record-read (l .time) (stored (l .load)) (l .note) (omega (arith, g .time)) (omega (arith, k .high)) (g .note) (rowOf l) 0 (omega arith)
+    record-read (l .time) (stored (l .load)) (l .note) (omega (arith, g .time)) (omega (arith, k .high)) (g .note) (rowOf l) 0
+    (omega arith)
     (part-all (rowOf l) 32 n) .code-is
 
 pub row-codes : (ls : List Lift) → GoodLifts ls → rowCodes (map rowOf ls) ≡ codes ls
@@ -82,9 +83,11 @@ module _ (h : History) (g : Good h) (k t1 t2 : ℕ) where
   tally-step = rw (ground-is h g k t1 t2 allLow allHigh) (go (eqb window 0) refl)
     where
       go : (t : Bool) → eqb window 0 ≡ t
-          → cond t (tallyAnswer (foundRows (image h .nand) (image h .nor) (image h .state .page) (logOf (image h .state) k) (queryOf t1 t2 allLow allHigh)))
+          → cond t (tallyAnswer (foundRows (image h .nand) (image h .nor) (image h .state .page) (logOf (image h .state) k)
+          (queryOf t1 t2 allLow allHigh)))
           (record { number = window; counts = noCounts })
-          ≡ cond t (record { number = 0; counts = countsOf (codes (found (h .log) t1 t2 allLow allHigh)) }) (record { number = window; counts = noCounts })
+          ≡ cond t (record { number = 0; counts = countsOf (codes (found (h .log) t1 t2 allLow allHigh)) })
+          (record { number = window; counts = noCounts })
       go true e =
           rw (found-if h g k t1 t2 allLow allHigh (eqb-true window 0 e))
           (ap {B = TallyAnswer} (λ (cs : List ℕ). record { number = 0; counts = countsOf cs })
@@ -93,5 +96,12 @@ module _ (h : History) (g : Good h) (k t1 t2 : ℕ) where
 
   -- a window that is accepted
   pub tally-found : k ≡ h .log .slots → t1 ≤ t2 → t2 ≤ 999999999999999
-      → tallyOutcome (image h) k t1 t2 ≡ record { number = 0; counts = countsOf (codes (found (h .log) t1 t2 (negsuc 49999) (pos 100000))) }
-  tally-found e l m = tally-step ∙ rw (eq-eqb k (h .log .slots) e, le-leb t1 999999999999999 (omega arith), le-leb t2 999999999999999 m, le-ltb t2 t1 l)
+      → tallyOutcome (image h) k t1 t2
+      ≡ record { number = 0; counts = countsOf (codes (found (h .log) t1 t2 (negsuc 49999) (pos 100000))) }
+  tally-found e l m =
+      tally-step ∙ rw (
+        eq-eqb k (h .log .slots) e,
+        le-leb t1 999999999999999 (omega arith),
+        le-leb t2 999999999999999 m,
+        le-ltb t2 t1 l,
+      )
