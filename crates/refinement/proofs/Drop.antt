@@ -79,7 +79,7 @@ pub first-skips : (slots n : ℕ) (ms : List Lift) (rest : List (List Lift)) (cu
 unfolding pageFrom
 first-skips slots n ms rest current heads s p f = rw (ne-eqb (slotOf n slots) s f)
 
-no-right : (a b : Bool) → b ≡ false → (a && b) ≡ false
+pub no-right : (a b : Bool) → b ≡ false → (a && b) ≡ false
 no-right true b e = e
 no-right false b e = refl
 

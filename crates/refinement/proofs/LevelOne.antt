@@ -1,30 +1,26 @@
--- Level 1 from a segment on gives the rows of all wanted lifts up to it, older ones first: each pointer leads to the segment before, and where a start
--- ≤ t1 has been done all older lifts are earlier. By induction on the steps. Assumes nothing.
-use mathlib.Core.Path.{_≡_, refl, sym, ap, ap₂, _∙_}
-use mathlib.Core.Bool.{Bool, true, false, cond, not, _&&_, _||_}
+-- Level 1 from a segment on gives the rows of all wanted lifts up to it, older ones first: each pointer leads to the segment
+-- before, and where a start ≤ t1 has been done all older lifts are earlier. By induction on the steps. Assumes nothing.
+use mathlib.Core.Path.{_≡_, refl, sym, ap, _∙_}
+use mathlib.Core.Bool.{Bool, true, false, cond, not, _||_}
 use mathlib.Core.Option.{Option, none, some}
 use mathlib.Core.List.{List, [], _∷_, _++_, map, append-assoc, append-nil}
 use Prim.Native.Nat.{ℕ, zero, suc, _+_, _-_, _*_, _≤_, _<_}
 use native.Mathlib.Omega.{arith}
-use lib.Dec.{eqb, leb, ltb}
 use lib.IntN.{ℤ}
-use lib.ListN.{length, getD, length-append}
+use lib.ListN.{length, length-append}
 use borrow.Author.Tests.{leb-true, lt-ltb, le-ltb}
-use Rattle.codec.specs.Area.{part}
-use Rattle.flash.specs.Chip.{slotOf, pageOf, pagesOf, erasedPage}
-use Rattle.lift.specs.Limits.{loadOk, stored}
+use Rattle.flash.specs.Chip.{slotOf, pageOf, pagesOf}
+use Rattle.lift.specs.Limits.{loadOk}
 use Rattle.bloom.specs.Pages.{sectionCount, segmentSections, bloomPage}
 use Rattle.skiplist.specs.declared.Pointer.{Pointer}
 use Rattle.skiplist.specs.Skip as Skip
 use Rattle.segment.specs.declared.Header.{Header}
 use Rattle.segment.proofs.HeaderRead.{headerOf}
 use Rattle.segment.proofs.ReadBack.{pages-first}
-use Rattle.walk.specs.declared.Closed.{Closed}
 use Rattle.walk.specs.declared.Cursor.{Cursor}
 use Rattle.walk.specs.declared.Query.{Query}
 use Rattle.walk.specs.declared.Step.{Step}
 use Rattle.walk.specs.declared.Step.the-variants.{End, Damage, Pass, Visit}
-use Rattle.walk.specs.Seek.{headerAt}
 use Rattle.walk.specs.Visit.{isPassed, cursorAfter, closedOf, advanceOf, closedRows}
 use Rattle.search.specs.Found.{joinRows, rowsFrom}
 use Rattle.store.specs.Queries.{queryOf}
@@ -35,9 +31,9 @@ use Rattle.refinement.proofs.Good.{Good}
 use Rattle.refinement.proofs.Lengths.{length-liftArea, length-codes}
 use Rattle.refinement.proofs.PageLengths.{length-nand, length-area, length-pageImage, page-of-nand}
 use Rattle.refinement.proofs.Slots.{slot-below}
-use Rattle.refinement.proofs.InBounds.{start-below}
+use Rattle.refinement.proofs.InBounds.{or-right, start-below}
 use Rattle.refinement.proofs.PageFrom.{headsAt}
-use Rattle.refinement.proofs.Retained.{Among, facts, built, retained-page, retained-header}
+use Rattle.refinement.proofs.Retained.{facts, built, retained-page, retained-header}
 use Rattle.refinement.proofs.Wanted.{map-append, joined-append, among-append, early-all}
 use Rattle.refinement.proofs.Records.{pages-are}
 use Rattle.refinement.proofs.OneSegment.{closed-rows}
@@ -98,61 +94,37 @@ module _ (h : History) (g : Good h) (before : List (List Lift)) (ls : List Lift)
     visited : closedRows (nandImage h) (closedOf slot header) (queryOf t1 t2 k1 k2) ≡ some (map rowOf (among t1 t2 k1 k2 ls))
     unfolding S.closingOf
     visited =
-        closed-rows t1 t2 k1 k2 ok1 ok2 ls (built h g before ls after is) (nandImage h) (closedOf slot header) lift-pages tree-pages refl refl
+        closed-rows t1 t2 k1 k2 ok1 ok2 ls (built h g before ls after is) (nandImage h)
+        (closedOf slot header) lift-pages tree-pages refl refl
 
     passed : isPassed (nandImage h) slot header (queryOf t1 t2 k1 k2) ≡ true → among t1 t2 k1 k2 ls ≡ []
     unfolding S.closingOf
     passed =
-        passed-none t1 t2 k1 k2 ok1 ok2 ls (built h g before ls after is) (nandImage h) slot header refl refl refl (pageOf (nandImage h) slot 30)
-        (omega (arith, ap length (page-of-nand h g slot 30 there (omega arith)), length-pageImage h g slot 30)) second-page bloom-pages
+        passed-none t1 t2 k1 k2 ok1 ok2 ls (built h g before ls after is) (nandImage h) slot header refl refl refl
+        (pageOf (nandImage h) slot 30)
+        (omega (arith, ap length (page-of-nand h g slot 30 there (omega arith)), length-pageImage h g slot 30))
+        second-page bloom-pages
 
 -- ---- from segment to segment
 
 module _ (h : History) (g : Good h) (t1 t2 : ℕ) (k1 k2 : ℤ) (ok1 : loadOk k1 ≡ true) (ok2 : loadOk k2 ≡ true) where
-  abbrev advanced : Cursor → Step
-  advanced c = advanceOf (nandImage h) (h .log .slots) (liveOf (h .log)) (queryOf t1 t2 k1 k2) c
+  abbrev q : Query
+  q = queryOf t1 t2 k1 k2
 
   abbrev wantedIn : List (List Lift) → List Lift
   wantedIn b = among t1 t2 k1 k2 (joined b)
 
+  abbrev run : ℕ → Cursor → Option (List (List ℕ))
+  run n c = rowsFrom n (nandImage h) (h .log .slots) (liveOf (h .log)) q c
+
+  abbrev advanced : Cursor → Step
+  advanced c = advanceOf (nandImage h) (h .log .slots) (liveOf (h .log)) q c
+
   -- what n steps find from a cursor behind the segments b
-  abbrev Finds : ℕ → Type 0
-  Finds n = (b rest : List (List Lift)) → h .log .closed ≡ b ++ rest → length b < n → (c : Cursor) → c .before ≡ h .log .oldest + length b
-      → Leads h b 0 (c .next) → (c .last ≡ true → wantedIn b ≡ [])
-      → rowsFrom n (nandImage h) (h .log .slots) (liveOf (h .log)) (queryOf t1 t2 k1 k2) c ≡ some (map rowOf (wantedIn b))
-
-  ends : (c : Cursor) → (c .last || not (Skip.isLive (c .next) (liveOf (h .log)))) ≡ true → advanced c ≡ End
-  unfolding advanceOf
-  ends c e = rw e
-
-  or-right : (a b : Bool) → b ≡ true → (a || b) ≡ true
-  or-right true b e = refl
-  or-right false b e = e
-
-  module _ (n : ℕ) (before : List (List Lift)) (ls : List Lift) (after : List (List Lift)) (is : h .log .closed ≡ before ++ (ls ∷ after)) where
-    abbrev head : Header
-    head = header h g before ls after is
-
-    goes : (c : Cursor) → c .last ≡ false → c .next ≡ pointerTo h before ls → h .log .oldest + length before < c .before
-        → advanced c ≡ cond (isPassed (nandImage h) (slot h g before ls after is) head (queryOf t1 t2 k1 k2))
-        (Pass (cursorAfter head (queryOf t1 t2 k1 k2))) (Visit (closedOf (slot h g before ls after is) head) (cursorAfter head (queryOf t1 t2 k1 k2)))
-    unfolding advanceOf
-    goes c e p l = rw (e, p, live-retained h g before ls after is, retained-header h g before ls after is (c .before) l)
-
-    parted : (b : List (List Lift)) → b ≡ before ++ (ls ∷ []) → wantedIn b ≡ wantedIn before ++ among t1 t2 k1 k2 ls
-    unfolding joined
-    parted b e =
-        ap wantedIn e ∙ ap (among t1 t2 k1 k2) (joined-append before (ls ∷ [])) ∙ among-append t1 t2 k1 k2 (joined before) (ls ++ [])
-        ∙ ap (λ (x : List Lift). wantedIn before ++ among t1 t2 k1 k2 x) (append-nil ls)
-
-    onward : Finds n → length before < n
-        → rowsFrom n (nandImage h) (h .log .slots) (liveOf (h .log)) (queryOf t1 t2 k1 k2) (cursorAfter head (queryOf t1 t2 k1 k2))
-        ≡ some (map rowOf (wantedIn before))
-    unfolding S.closingOf
-    onward f l =
-        let a = facts h g before ls after is in
-        f before (ls ∷ after) is l (cursorAfter head (queryOf t1 t2 k1 k2)) refl (leads-node h g before (h .log .oldest + length before) 0) (λ e.
-        early-all t1 t2 k1 k2 (a .earlier) (omega (arith, start-below ls (a .own) (a .some-lift), leb-true (S.startTime ls) t1 e)))
+  abbrev pub Finds : ℕ → Type 0
+  Finds n = (b rest : List (List Lift)) → h .log .closed ≡ b ++ rest → length b < n
+      → (c : Cursor) → c .before ≡ h .log .oldest + length b → Leads h b 0 (c .next) → (c .last ≡ true → wantedIn b ≡ [])
+      → run n c ≡ some (map rowOf (wantedIn b))
 
   -- what comes of a step, with n to go
   abbrev took : ℕ → Step → Option (List (List ℕ))
@@ -160,34 +132,60 @@ module _ (h : History) (g : Good h) (t1 t2 : ℕ) (k1 k2 : ℤ) (ok1 : loadOk k1
       elim s [
         | End ↦ some []
         | Damage ↦ none
-        | Pass d ↦ rowsFrom n (nandImage h) (h .log .slots) (liveOf (h .log)) (queryOf t1 t2 k1 k2) d
-        | Visit s d ↦
-            joinRows (rowsFrom n (nandImage h) (h .log .slots) (liveOf (h .log)) (queryOf t1 t2 k1 k2) d) (closedRows (nandImage h) s (queryOf t1 t2 k1 k2))
+        | Pass d ↦ run n d
+        | Visit s d ↦ joinRows (run n d) (closedRows (nandImage h) s q)
       ]
 
-  first-of : (n : ℕ) (c : Cursor) → rowsFrom (suc n) (nandImage h) (h .log .slots) (liveOf (h .log)) (queryOf t1 t2 k1 k2) c ≡ took n (advanced c)
+  first-of : (n : ℕ) (c : Cursor) → run (suc n) c ≡ took n (advanced c)
   unfolding rowsFrom
   first-of n c = refl
 
-  -- a segment and those before it
-  taken : (n : ℕ) (before : List (List Lift)) (ls : List Lift) (after : List (List Lift)) (is : h .log .closed ≡ before ++ (ls ∷ after))
-      → Finds n → length before < n → (c : Cursor) → c .last ≡ false → c .next ≡ pointerTo h before ls → h .log .oldest + length before < c .before
-      → took n (advanced c) ≡ some (map rowOf (wantedIn before ++ among t1 t2 k1 k2 ls))
-  taken n before ls after is f l c e p s =
-      rw (goes n before ls after is c e p s) (go (isPassed (nandImage h) (slot h g before ls after is) hd (queryOf t1 t2 k1 k2)) refl)
-    where
-      hd : Header
-      hd = header h g before ls after is
+  ends : (c : Cursor) → (c .last || not (Skip.isLive (c .next) (liveOf (h .log)))) ≡ true → advanced c ≡ End
+  unfolding advanceOf
+  ends c e = rw e
 
-      go : (t : Bool) → isPassed (nandImage h) (slot h g before ls after is) (header h g before ls after is) (queryOf t1 t2 k1 k2) ≡ t
-          → took n (cond t (Pass (cursorAfter (header h g before ls after is) (queryOf t1 t2 k1 k2)))
-          (Visit (closedOf (slot h g before ls after is) (header h g before ls after is)) (cursorAfter (header h g before ls after is) (queryOf t1 t2 k1 k2))))
-          ≡ some (map rowOf (wantedIn before ++ among t1 t2 k1 k2 ls))
-      go true q =
-          rw (onward n before ls after is f l, passed h g before ls after is t1 t2 k1 k2 ok1 ok2 q, append-nil (wantedIn before))
-      go false q =
-          rw (onward n before ls after is f l, visited h g before ls after is t1 t2 k1 k2 ok1 ok2)
-          (ap some (sym (map-append rowOf (wantedIn before) (among t1 t2 k1 k2 ls))))
+  -- a retained segment, and those before it
+  module _ (before : List (List Lift)) (ls : List Lift) (after : List (List Lift))
+      (is : h .log .closed ≡ before ++ (ls ∷ after)) where
+    abbrev at : ℕ
+    at = slot h g before ls after is
+
+    abbrev head : Header
+    head = header h g before ls after is
+
+    goes : (c : Cursor) → c .last ≡ false → c .next ≡ pointerTo h before ls → h .log .oldest + length before < c .before
+        → advanced c
+        ≡ cond (isPassed (nandImage h) at head q) (Pass (cursorAfter head q)) (Visit (closedOf at head) (cursorAfter head q))
+    unfolding advanceOf
+    goes c e p l = rw (e, p, live-retained h g before ls after is, retained-header h g before ls after is (c .before) l)
+
+    parted : (b : List (List Lift)) → b ≡ before ++ (ls ∷ []) → wantedIn b ≡ wantedIn before ++ among t1 t2 k1 k2 ls
+    unfolding joined
+    parted b e =
+        ap wantedIn e ∙ ap (among t1 t2 k1 k2) (joined-append before (ls ∷ []))
+        ∙ among-append t1 t2 k1 k2 (joined before) (ls ++ [])
+        ∙ ap (λ (x : List Lift). wantedIn before ++ among t1 t2 k1 k2 x) (append-nil ls)
+
+    onward : (n : ℕ) → Finds n → length before < n → run n (cursorAfter head q) ≡ some (map rowOf (wantedIn before))
+    unfolding S.closingOf
+    onward n f l =
+        let a = facts h g before ls after is in
+        f before (ls ∷ after) is l (cursorAfter head q) refl (leads-node h g before (h .log .oldest + length before) 0)
+        (λ e. early-all t1 t2 k1 k2 (a .earlier)
+        (omega (arith, start-below ls (a .own) (a .some-lift), leb-true (S.startTime ls) t1 e)))
+
+    taken : (n : ℕ) → Finds n → length before < n → (c : Cursor) → c .last ≡ false → c .next ≡ pointerTo h before ls
+        → h .log .oldest + length before < c .before
+        → took n (advanced c) ≡ some (map rowOf (wantedIn before ++ among t1 t2 k1 k2 ls))
+    taken n f l c e p s = rw (goes c e p s) (go (isPassed (nandImage h) at head q) refl)
+      where
+        go : (t : Bool) → isPassed (nandImage h) at head q ≡ t
+            → took n (cond t (Pass (cursorAfter head q)) (Visit (closedOf at head) (cursorAfter head q)))
+            ≡ some (map rowOf (wantedIn before ++ among t1 t2 k1 k2 ls))
+        go true i = rw (onward n f l, passed h g before ls after is t1 t2 k1 k2 ok1 ok2 i, append-nil (wantedIn before))
+        go false i =
+            rw (onward n f l, visited h g before ls after is t1 t2 k1 k2 ok1 ok2)
+            (ap some (sym (map-append rowOf (wantedIn before) (among t1 t2 k1 k2 ls))))
 
   step : (n : ℕ) → Finds n → Finds (suc n)
   unfolding among joined
@@ -198,10 +196,11 @@ module _ (h : History) (g : Good h) (t1 t2 : ℕ) (k1 k2 : ℤ) (ok1 : loadOk k1
       go false e (dead d z) = rw (ends c (or-right (c .last) _ (rw d)), z refl)
       go false e (to before ls after eq z p) =
           let whole : b ≡ before ++ (ls ∷ []) = eq ∙ ap (λ (x : List (List Lift)). before ++ (ls ∷ x)) (z refl) in
-          let there : h .log .closed ≡ before ++ (ls ∷ rest) = is ∙ ap (λ (x : List (List Lift)). x ++ rest) whole ∙ append-assoc before (ls ∷ []) rest in
+          let there : h .log .closed ≡ before ++ (ls ∷ rest) =
+          is ∙ ap (λ (x : List (List Lift)). x ++ rest) whole ∙ append-assoc before (ls ∷ []) rest in
           let m = ap length whole ∙ length-append before (ls ∷ []) in
-          taken n before ls rest there f (omega arith) c e p (omega arith)
-          ∙ ap (λ (x : List Lift). some (map rowOf x)) (sym (parted n before ls rest there b whole))
+          taken before ls rest there n f (omega arith) c e p (omega arith)
+          ∙ ap (λ (x : List Lift). some (map rowOf x)) (sym (parted before ls rest there b whole))
 
   pub level-one : (n : ℕ) → Finds n
   level-one zero = λ b rest is l. absurd (omega arith)

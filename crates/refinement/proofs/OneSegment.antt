@@ -1,16 +1,14 @@
--- A search of one segment finds the rows of its wanted lifts: the tree gives the places of the loads in the range, the times are filtered, and the
--- places, lowest first, are the lifts in order of arrival. Assumes nothing.
+-- A search of one segment finds the rows of its wanted lifts: the tree gives the places of the loads in the range, the times
+-- are filtered, and the places, lowest first, are the lifts in order of arrival. Assumes nothing.
 use mathlib.Core.Path.{_≡_, refl, sym, ap, ap₂, _∙_}
 use mathlib.Core.Bool.{Bool, true, false, cond, _&&_}
-use mathlib.Core.Option.{Option, none, some}
-use mathlib.Core.List.{List, [], _∷_, _++_, map}
-use Prim.Native.Nat.{ℕ, zero, suc, _+_, _-_, _*_, _/_, _≤_, _<_}
+use mathlib.Core.Option.{Option, some}
+use mathlib.Core.List.{List, [], _∷_, map}
+use Prim.Native.Nat.{ℕ, zero, suc, _+_, _*_, _/_, _≤_, _<_}
 use native.Mathlib.Omega.{arith}
-use native.Mathlib.Decide.{decLt}
-use lib.Dec.{eqb, leb, ltb}
+use lib.Dec.{eqb, ltb}
 use lib.IntN.{ℤ}
 use lib.ListN.{length, getD}
-use lib.Signed.{leZ}
 use borrow.Author.Tests.{lt-ltb, le-ltb, ne-eqb}
 use Rattle.flash.specs.Chip.{slotOf, pagesOf, norTree}
 use Rattle.lift.specs.Limits.{loadOk, stored}
@@ -27,12 +25,11 @@ use Rattle.tree.proofs.Swept.{sweep-built}
 use Rattle.tree.proofs.Written.{tree-of-nor}
 use Rattle.walk.specs.declared.Closed.{Closed}
 use Rattle.walk.specs.declared.Log.{Log}
-use Rattle.walk.specs.declared.Query.{Query}
 use Rattle.walk.specs.Visit.{timely, timed, matchesOf, rowsAt, closedMatches, closedRows, openMatches, openRows}
 use Rattle.store.specs.Queries.{queryOf}
 use Rattle.paper_log.specs.Log.{Lift, rowOf, codes, wanted, among}
 use Rattle.refinement.specs.Segments.{liftArea, pageBuffer, treeArea, bucketCount, norOf}
-use Rattle.refinement.proofs.Good.{GoodLifts, Built}
+use Rattle.refinement.proofs.Good.{Built}
 use Rattle.refinement.proofs.Lengths.{length-codes, good-loads}
 use Rattle.refinement.proofs.Wanted.{noLift}
 use Rattle.refinement.proofs.Records.{Reads, good-at, closed-reads}
@@ -129,7 +126,8 @@ module _ (t1 t2 : ℕ) (k1 k2 : ℤ) where
             let c = length-codes ls in
             no-left (elem p hit) _ (is-hit p ∙ no-left (ltb p (length (codes ls))) _ (le-ltb p (length (codes ls)) (omega arith)))
 
-        pub rows-matched : rowsAt (recordIn lifts tail first) (matchesOf (treeArea ls) lifts tail first (length ls) (bucketCount ls) (queryOf t1 t2 k1 k2))
+        pub rows-matched : rowsAt (recordIn lifts tail first)
+            (matchesOf (treeArea ls) lifts tail first (length ls) (bucketCount ls) (queryOf t1 t2 k1 k2))
             ≡ some (map rowOf (among t1 t2 k1 k2 ls))
         unfolding matchesOf timed
         rows-matched =
@@ -137,8 +135,10 @@ module _ (t1 t2 : ℕ) (k1 k2 : ℤ) where
             (λ p h. let z : 0 + p ≡ p = omega arith in rw z (r .rows p h))))
 
       -- a closed segment in its slot's pages
-      pub closed-rows : (nand : List ℕ) (s : Closed) → pagesOf nand (s .slot) 0 20 ≡ liftArea ls → pagesOf nand (s .slot) 20 9 ≡ treeArea ls
-          → s .count ≡ length ls → s .buckets ≡ bucketCount ls → closedRows nand s (queryOf t1 t2 k1 k2) ≡ some (map rowOf (among t1 t2 k1 k2 ls))
+      pub closed-rows : (nand : List ℕ) (s : Closed) → pagesOf nand (s .slot) 0 20 ≡ liftArea ls
+          → pagesOf nand (s .slot) 20 9 ≡ treeArea ls
+          → s .count ≡ length ls → s .buckets ≡ bucketCount ls
+          → closedRows nand s (queryOf t1 t2 k1 k2) ≡ some (map rowOf (among t1 t2 k1 k2 ls))
       unfolding closedRows closedMatches
       closed-rows nand s el et ec eb =
           rw (el, et, ec, eb) (rows-matched (liftArea ls) (liftArea ls) 320 (closed-reads ls (b .lifts) (b .few)))
@@ -151,4 +151,5 @@ module _ (t1 t2 : ℕ) (k1 k2 : ℤ) where
     unfolding openRows openMatches
     open-rows ls b nand g r ec eb =
         rw (ec, eb, nor-tree ls)
-        (if-some ls _ (rows-matched ls b (pagesOf nand (slotOf (g .current) (g .slots)) 0 20) (pageBuffer ls) (length ls / 16 * 16) r))
+        (if-some ls _ (rows-matched ls b (pagesOf nand (slotOf (g .current) (g .slots)) 0 20) (pageBuffer ls)
+        (length ls / 16 * 16) r))

@@ -1,11 +1,11 @@
--- A segment that a search passes over has no wanted lift: a wanted load lies in the span from low to high, and for equal loads no hash bit of it is
--- clear in all sections. Assumes nothing.
-use mathlib.Core.Path.{_≡_, refl, sym, ap, _∙_}
-use mathlib.Core.Bool.{Bool, true, false, cond, not, _&&_, _||_}
-use mathlib.Core.List.{List, [], _∷_, _++_, map}
-use Prim.Native.Nat.{ℕ, zero, suc, _+_, _*_, _/_, _≤_, _<_}
+-- A segment that a search passes over has no wanted lift: a wanted load lies in the span from low to high, and for equal loads
+-- no hash bit of it is clear in all sections. Assumes nothing.
+use mathlib.Core.Path.{_≡_, refl, sym, _∙_}
+use mathlib.Core.Bool.{Bool, true, false, cond, not, _&&_}
+use mathlib.Core.List.{List, [], _∷_, _++_}
+use Prim.Native.Nat.{ℕ, zero, suc, _≤_, _<_}
 use native.Mathlib.Omega.{arith}
-use lib.Dec.{leb, ltb}
+use lib.Dec.{ltb}
 use lib.IntN.{ℤ, pos, negsuc}
 use lib.ListN.{length, getD}
 use lib.Signed.{leZ, ltZ}
@@ -19,9 +19,9 @@ use Rattle.bloom.specs.Bloom.{mayHold}
 use Rattle.bloom.specs.Pages.{sectionCount, segmentSections, bloomPage, sectionsIn}
 use Rattle.bloom.proofs.Pages.{bloom-never-misses-in-pages}
 use Rattle.tree.specs.Search.{within}
+use Rattle.tree.proofs.Clears.{both}
 use Rattle.tree.proofs.Search.{within-sides}
 use Rattle.segment.specs.declared.Header.{Header}
-use Rattle.walk.specs.declared.Query.{Query}
 use Rattle.walk.specs.Visit.{timely, isPassed}
 use Rattle.store.specs.Queries.{queryOf}
 use Rattle.paper_log.specs.Log.{Lift, codes, wanted, among}
@@ -55,7 +55,8 @@ low-below m (l ∷ ls) (suc p) h = low-below (cond (ltZ (l .load) m) (l .load) m
 high-above : (m : ℤ) (ls : List Lift) (p : ℕ) → p < length ls → leZ (getD ls p noLift .load) (S.highFrom m (S.loadsOf ls)) ≡ true
 unfolding S.highFrom
 high-above m [] p h = absurd (omega arith)
-high-above m (l ∷ ls) zero h = high-least (cond (ltZ m (l .load)) (l .load) m) (l .load) (S.loadsOf ls) (go (ltZ m (l .load)) refl)
+high-above m (l ∷ ls) zero h =
+    high-least (cond (ltZ m (l .load)) (l .load) m) (l .load) (S.loadsOf ls) (go (ltZ m (l .load)) refl)
   where
     go : (t : Bool) → ltZ m (l .load) ≡ t → leZ (l .load) (cond t (l .load) m) ≡ true
     go true e = le-self (l .load)
@@ -64,13 +65,15 @@ high-above m (l ∷ ls) (suc p) h = high-above (cond (ltZ m (l .load)) (l .load)
 
 -- as stored
 in-span : (ls : List Lift) (p : ℕ) → GoodLifts ls → p < length ls
-    → (stored (S.lowOf (S.loadsOf ls)) ≤ stored (getD ls p noLift .load)) × (stored (getD ls p noLift .load) ≤ stored (S.highOf (S.loadsOf ls)))
+    → (stored (S.lowOf (S.loadsOf ls)) ≤ stored (getD ls p noLift .load))
+    × (stored (getD ls p noLift .load) ≤ stored (S.highOf (S.loadsOf ls)))
 in-span [] p g h = absurd (omega arith)
 in-span (l ∷ ls) p g h = (low p h, high p h)
   where
     low : (p : ℕ) → p < length (l ∷ ls) → stored (S.lowFrom (l .load) (S.loadsOf ls)) ≤ stored (getD (l ∷ ls) p noLift .load)
     low p h =
-        leb-true _ _ (sym (stored-le (S.lowFrom (l .load) (S.loadsOf ls)) (getD (l ∷ ls) p noLift .load) (low-ok (l .load) ls (g .0 .load) (g .1))
+        leb-true _ _ (sym (stored-le (S.lowFrom (l .load) (S.loadsOf ls)) (getD (l ∷ ls) p noLift .load)
+        (low-ok (l .load) ls (g .0 .load) (g .1))
         (good-at (l ∷ ls) p g h .load)) ∙ below p h)
       where
         below : (p : ℕ) → p < length (l ∷ ls) → leZ (S.lowFrom (l .load) (S.loadsOf ls)) (getD (l ∷ ls) p noLift .load) ≡ true
@@ -79,7 +82,8 @@ in-span (l ∷ ls) p g h = (low p h, high p h)
 
     high : (p : ℕ) → p < length (l ∷ ls) → stored (getD (l ∷ ls) p noLift .load) ≤ stored (S.highFrom (l .load) (S.loadsOf ls))
     high p h =
-        leb-true _ _ (sym (stored-le (getD (l ∷ ls) p noLift .load) (S.highFrom (l .load) (S.loadsOf ls)) (good-at (l ∷ ls) p g h .load)
+        leb-true _ _ (sym (stored-le (getD (l ∷ ls) p noLift .load) (S.highFrom (l .load) (S.loadsOf ls))
+        (good-at (l ∷ ls) p g h .load)
         (high-ok (l .load) ls (g .0 .load) (g .1))) ∙ above p h)
       where
         above : (p : ℕ) → p < length (l ∷ ls) → leZ (getD (l ∷ ls) p noLift .load) (S.highFrom (l .load) (S.loadsOf ls)) ≡ true
@@ -88,11 +92,8 @@ in-span (l ∷ ls) p g h = (low p h, high p h)
 
 -- ---- passed over
 
-and-left : (a b : Bool) → (a && b) ≡ true → a ≡ true
-and-left true b e = refl
-and-left false b e = e
-
-module _ (t1 t2 : ℕ) (k1 k2 : ℤ) (ok1 : loadOk k1 ≡ true) (ok2 : loadOk k2 ≡ true) (ls : List Lift) (b : Built ls) (nand : List ℕ) (slot : ℕ)
+module _ (t1 t2 : ℕ) (k1 k2 : ℤ) (ok1 : loadOk k1 ≡ true) (ok2 : loadOk k2 ≡ true) (ls : List Lift) (b : Built ls)
+    (nand : List ℕ) (slot : ℕ)
     (head : Header) (count : head .count ≡ length ls) (low : head .low ≡ stored (S.lowOf (S.loadsOf ls)))
     (high : head .high ≡ stored (S.highOf (S.loadsOf ls))) (second : List ℕ) (room : 512 ≤ length second)
     (used : 5 ≤ sectionCount (length (codes ls)) → second ≡ bloomPage (segmentSections (codes ls)) 1)
@@ -103,8 +104,8 @@ module _ (t1 t2 : ℕ) (k1 k2 : ℤ) (ok1 : loadOk k1 ≡ true) (ok2 : loadOk k2
   in-range : (p : ℕ) → p < length ls → wanted t1 t2 k1 k2 (getD ls p noLift) ≡ true → (stored k1 ≤ load p) × (load p ≤ stored k2)
   in-range p h w =
       within-sides (stored k1) (stored k2) (load p)
-      (and-left (within (stored k1) (stored k2) (load p)) (timely (queryOf t1 t2 k1 k2) (getD ls p noLift .time))
-      (wanted-is t1 t2 k1 k2 ok1 ok2 (getD ls p noLift) (good-at ls p (b .lifts) h .load) ∙ w))
+      (both (within (stored k1) (stored k2) (load p)) (timely (queryOf t1 t2 k1 k2) (getD ls p noLift .time))
+      (wanted-is t1 t2 k1 k2 ok1 ok2 (getD ls p noLift) (good-at ls p (b .lifts) h .load) ∙ w) .0)
 
   held : (p : ℕ) → p < length ls → mayHold (sectionsIn (pagesOf nand slot 29 2) (sectionCount (length ls))) (load p) ≡ true
   held p h =
@@ -112,7 +113,8 @@ module _ (t1 t2 : ℕ) (k1 k2 : ℤ) (ok1 : loadOk k1 ≡ true) (ok2 : loadOk k2
       let e : elem (load p) (codes ls) ≡ true = rw (code-at ls p h) at (elem-at (codes ls) p (omega arith)) in
       rw (pages, ← n) (bloom-never-misses-in-pages (codes ls) second (load p) (omega (arith, b .few)) room used e)
 
-  not-passed : (p : ℕ) → p < length ls → wanted t1 t2 k1 k2 (getD ls p noLift) ≡ true → isPassed nand slot head (queryOf t1 t2 k1 k2) ≡ false
+  not-passed : (p : ℕ) → p < length ls → wanted t1 t2 k1 k2 (getD ls p noLift) ≡ true
+      → isPassed nand slot head (queryOf t1 t2 k1 k2) ≡ false
   unfolding isPassed
   not-passed p h w =
       let r = in-range p h w in

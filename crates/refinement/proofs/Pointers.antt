@@ -1,13 +1,13 @@
--- Where a history's skip pointers lead: each is not live, or is that of a retained closed segment; one of level 1 is that of the last one before.
--- By induction over the segments in order of closing. Assumes nothing.
+-- Where a history's skip pointers lead: each is not live, or is that of a retained closed segment; one of level 1 is that of
+-- the last one before. By induction over the segments in order of closing. Assumes nothing.
 use mathlib.Core.Path.{_≡_, refl, sym, ap, subst, _∙_}
-use mathlib.Core.Bool.{Bool, true, false, not, _&&_}
+use mathlib.Core.Bool.{true, false, not}
 use mathlib.Core.List.{List, [], _∷_, _++_, map, append-assoc, append-nil}
 use Prim.Native.Nat.{ℕ, zero, suc, _+_, _≤_, _<_}
 use native.Mathlib.Decide.{decLt}
 use native.Mathlib.Nat.{le-refl}
 use native.Mathlib.Omega.{arith}
-use lib.Dec.{eqb, leb}
+use lib.Dec.{eqb}
 use lib.ListN.{length, getD, List·getD-eq-default}
 use borrow.Author.Tests.{lt-leb, le-leb, ne-eqb}
 use Rattle.flash.specs.Chip.{slotOf}
@@ -20,11 +20,12 @@ use Rattle.refinement.specs.Segments as S
 use Rattle.refinement.specs.Image.{History, oldestHeads, firstStart, liveOf}
 use Rattle.refinement.proofs.Good as G
 use Rattle.refinement.proofs.Good.{Times, Segments, Starts, Good}
-use Rattle.refinement.proofs.InBounds.{times-up, segments-up, starts-up, start-below}
+use Rattle.refinement.proofs.InBounds.{segments-up, starts-up, start-below}
 use Rattle.refinement.proofs.Slots.{slot-below}
 use Rattle.refinement.proofs.PageLengths.{four-after, four-heads, four-oldest}
 use Rattle.refinement.proofs.PageFrom.{headsAt}
-use Rattle.refinement.proofs.Retained.{Among, among, facts}
+use Rattle.refinement.proofs.Retained.{among}
+use Rattle.refinement.proofs.Drop.{no-right}
 use Rattle.refinement.proofs.OneMore.{length-snoc}
 
 -- the pointer to the closed segment behind these
@@ -41,10 +42,6 @@ level-least : (n : ℕ) → 1 ≤ levelOf n
 unfolding levelOf
 level-least n = omega arith
 
-no-right : (a b : Bool) → b ≡ false → (a && b) ≡ false
-no-right true b e = e
-no-right false b e = refl
-
 -- ---- one segment closed
 
 module _ (h : History) (b : List (List Lift)) (ls : List Lift) where
@@ -54,7 +51,8 @@ module _ (h : History) (b : List (List Lift)) (ls : List Lift) where
   leads-on : (k : ℕ) (p : Pointer) → 1 ≤ k → Leads h b k p → Leads h (b ++ (ls ∷ [])) k p
   leads-on k p l (dead d z) = dead d (λ e. absurd (omega arith))
   leads-on k p l (to before ms after e z q) =
-      to before ms (after ++ (ls ∷ [])) (ap (λ (x : List (List Lift)). x ++ (ls ∷ [])) e ∙ append-assoc before (ms ∷ after) (ls ∷ []))
+      to before ms (after ++ (ls ∷ []))
+      (ap (λ (x : List (List Lift)). x ++ (ls ∷ [])) e ∙ append-assoc before (ms ∷ after) (ls ∷ []))
       (λ e. absurd (omega arith)) q
 
   leads-after : (n : ℕ) (heads : List Pointer) → length heads ≡ 4 → ((k : ℕ) → Leads h b k (getD heads k none))
@@ -69,8 +67,10 @@ module _ (h : History) (b : List (List Lift)) (ls : List Lift) where
 
 -- ---- some segments closed
 
-leads-from : (h : History) (b c : List (List Lift)) (heads : List Pointer) → length heads ≡ 4 → ((k : ℕ) → Leads h b k (getD heads k none))
-    → (k : ℕ) → Leads h (b ++ c) k (getD (S.headsFrom (h .log .slots) (h .log .oldest + length b) (map S.startTime c) heads) k none)
+leads-from : (h : History) (b c : List (List Lift)) (heads : List Pointer) → length heads ≡ 4
+    → ((k : ℕ) → Leads h b k (getD heads k none))
+    → (k : ℕ)
+    → Leads h (b ++ c) k (getD (S.headsFrom (h .log .slots) (h .log .oldest + length b) (map S.startTime c) heads) k none)
 unfolding S.headsFrom
 leads-from h b [] heads four f k = rw (append-nil b) (f k)
 leads-from h b (ls ∷ c) heads four f k =
@@ -79,13 +79,15 @@ leads-from h b (ls ∷ c) heads four f k =
     let after : List Pointer = headsAfter heads (levelOf n) (pointerTo h b ls) in
     subst (λ (x : List (List Lift)). Leads h x k (getD (S.headsFrom (h .log .slots) (suc n) (map S.startTime c) after) k none))
     (append-assoc b (ls ∷ []) c)
-    (subst (λ (m : ℕ). Leads h ((b ++ (ls ∷ [])) ++ c) k (getD (S.headsFrom (h .log .slots) m (map S.startTime c) after) k none)) (sym e)
+    (subst (λ (m : ℕ). Leads h ((b ++ (ls ∷ [])) ++ c) k
+    (getD (S.headsFrom (h .log .slots) m (map S.startTime c) after) k none)) (sym e)
     (leads-from h (b ++ (ls ∷ [])) c (headsAfter heads (levelOf (h .log .oldest + length b)) (pointerTo h b ls))
     (four-after heads n (pointerTo h b ls) four) (leads-after h b ls n heads four f) k))
 
 -- ---- the oldest live time
 
-live-above : (closed : List (List Lift)) (ls : List Lift) {n m k : ℕ} → Segments n closed m → Times m ls k → n ≤ firstStart closed ls k
+live-above : (closed : List (List Lift)) (ls : List Lift) {n m k : ℕ} → Segments n closed m → Times m ls k
+    → n ≤ firstStart closed ls k
 live-above [] [] G.none G.none = le-refl _
 live-above [] (l ∷ ls) G.none (G.more a t) = a
 live-above ((l ∷ ls) ∷ rest) current (G.more (G.more a u) r) t = a
@@ -111,7 +113,8 @@ module _ (live : ℕ) where
   no-head (suc (suc (suc (suc k)))) = refl
 
   dead-from : (slots n : ℕ) {a m : ℕ} (ts : List ℕ) (heads : List Pointer) → Starts a ts m → m ≤ live → length heads ≡ 4
-      → ((k : ℕ) → isLive (getD heads k none) live ≡ false) → (k : ℕ) → isLive (getD (S.headsFrom slots n ts heads) k none) live ≡ false
+      → ((k : ℕ) → isLive (getD heads k none) live ≡ false) → (k : ℕ)
+      → isLive (getD (S.headsFrom slots n ts heads) k none) live ≡ false
   unfolding S.headsFrom
   dead-from slots n [] heads s l four f k = f k
   dead-from slots n (t ∷ ts) heads (G.more p q r) l four f k =
@@ -122,7 +125,9 @@ module _ (live : ℕ) where
       one late k = go (decLt k (levelOf n))
         where
           go : Dec (k < levelOf n) → isLive (getD (headsAfter heads (levelOf n) (pointer (slotOf n slots) t)) k none) live ≡ false
-          go (yes l) = rw (heads-below heads four (levelOf n) (level-most n) (pointer (slotOf n slots) t) k l) (dead-pointer (slotOf n slots) t late)
+          go (yes l) =
+              rw (heads-below heads four (levelOf n) (level-most n) (pointer (slotOf n slots) t) k l)
+              (dead-pointer (slotOf n slots) t late)
           go (no l) = rw (heads-above heads four (levelOf n) (level-most n) (pointer (slotOf n slots) t) k (omega arith)) (f k)
 
 -- ---- the pointers of a history
@@ -130,11 +135,13 @@ module _ (live : ℕ) where
 module _ (h : History) (g : Good h) where
   oldest-dead : (k : ℕ) → isLive (getD (oldestHeads h) k none) (liveOf (h .log)) ≡ false
   oldest-dead =
-      dead-from (liveOf (h .log)) (h .log .slots) 1 (h .gone) S.noHeads (g .went) (live-above (h .log .closed) (h .log .current) (g .closed) (g .current))
+      dead-from (liveOf (h .log)) (h .log .slots) 1 (h .gone) S.noHeads (g .went)
+      (live-above (h .log .closed) (h .log .current) (g .closed) (g .current))
       refl (no-head (liveOf (h .log)))
 
   -- the heads where the segments b are closed
-  pub leads-heads : (b : List (List Lift)) (k : ℕ) → Leads h b k (getD (headsAt (h .log .slots) (h .log .oldest) b (oldestHeads h)) k none)
+  pub leads-heads : (b : List (List Lift)) (k : ℕ)
+      → Leads h b k (getD (headsAt (h .log .slots) (h .log .oldest) b (oldestHeads h)) k none)
   leads-heads b k =
       let z : h .log .oldest + 0 ≡ h .log .oldest = omega arith in
       rw z at (leads-from h [] b (oldestHeads h) (four-oldest h g) (λ k. dead (oldest-dead k) (λ e. refl)) k)
@@ -153,13 +160,16 @@ module _ (h : History) (g : Good h) where
       go : Dec (k < levelOf n) → Dec (k < 4) → Leads h b k (getD (nodeOf heads (levelOf n)) k none)
       go (yes l) m = rw (node-below heads four (levelOf n) (level-most n) k l) (leads-heads b k)
       go (no l) (yes m) =
-          rw (node-above heads four (levelOf n) (level-most n) k (omega arith) m) (dead refl (λ e. absurd (omega (arith, level-least n))))
+          rw (node-above heads four (levelOf n) (level-most n) k (omega arith) m)
+          (dead refl (λ e. absurd (omega (arith, level-least n))))
       go (no l) (no m) =
-          let d = List·getD-eq-default (nodeOf heads (levelOf n)) none {n = k} (omega (arith, length-node heads four (levelOf n) (level-most n))) in
+          let d = List·getD-eq-default (nodeOf heads (levelOf n)) none {n = k}
+          (omega (arith, length-node heads four (levelOf n) (level-most n))) in
           rw d (dead refl (λ e. absurd (omega arith)))
 
   -- a retained segment's pointer is live
-  pub live-retained : (before : List (List Lift)) (ls : List Lift) (after : List (List Lift)) → h .log .closed ≡ before ++ (ls ∷ after)
+  pub live-retained : (before : List (List Lift)) (ls : List Lift) (after : List (List Lift))
+      → h .log .closed ≡ before ++ (ls ∷ after)
       → isLive (pointerTo h before ls) (liveOf (h .log)) ≡ true
   live-retained before ls after is =
       let s = slot-below (h .log .slots) (h .log .oldest + length before) (omega (arith, g .least)) in
@@ -167,5 +177,5 @@ module _ (h : History) (g : Good h) where
         ne-eqb (slotOf (h .log .oldest + length before) (h .log .slots)) 65535 (λ e. omega (arith, g .most)),
         is,
         le-leb _ _ (live-below before ls after (h .log .current) (h .log .next)
-        (subst (λ (c : List (List Lift)). Segments (g .before) c (g .begun)) is (g .closed))),
+            (subst (λ (c : List (List Lift)). Segments (g .before) c (g .begun)) is (g .closed))),
       )

@@ -1,24 +1,26 @@
--- On the world of a history a search finds exactly the paper log's lifts: the closed segments' in order, then the open one's. Assumes nothing.
-use mathlib.Core.Path.{_≡_, refl, sym, ap, ap₂, _∙_}
+-- On the world of a history a search finds exactly the paper log's lifts: the closed segments' in order, then the open one's.
+-- Assumes nothing.
+use mathlib.Core.Path.{_≡_, refl, sym, ap, _∙_}
 use mathlib.Core.Bool.{Bool, true, false, cond, not, _&&_}
-use mathlib.Core.Option.{Option, none, some}
+use mathlib.Core.Option.{none, some}
 use mathlib.Core.List.{List, [], _∷_, _++_, map, append-nil}
-use Prim.Native.Nat.{ℕ, zero, suc, _+_, _≤_, _<_}
+use Prim.Native.Nat.{ℕ, _+_, _<_}
 use native.Mathlib.Numerals.{add-one}
 use native.Mathlib.Omega.{arith}
 use lib.Dec.{eqb, leb}
 use lib.IntN.{ℤ}
 use lib.ListN.{length, getD, length-append}
-use borrow.Author.Tests.{leb-true, eqb-false}
+use borrow.Author.Tests.{leb-true}
 use Rattle.lift.specs.Limits.{loadOk}
 use Rattle.skiplist.specs.Skip as Skip
+use Rattle.tree.proofs.Clears.{both}
 use Rattle.walk.specs.declared.Cursor.{Cursor}
 use Rattle.walk.specs.declared.Log.{Log}
 use Rattle.walk.specs.declared.Query.{Query}
 use Rattle.walk.specs.declared.SkipWalk.{SkipWalk}
 use Rattle.walk.specs.Seek.{skipWalk, reachedBy, startOf}
 use Rattle.walk.specs.Visit.{advanceOf}
-use Rattle.search.specs.Found.{joinRows, rowsFrom, closedFound, foundRows}
+use Rattle.search.specs.Found.{rowsFrom, closedFound, foundRows}
 use Rattle.store.specs.Queries.{logOf, queryOf}
 use Rattle.paper_log.specs.Log.{Lift, openSerial, rowOf, among, joined, found}
 use Rattle.refinement.specs.Segments as S
@@ -31,10 +33,6 @@ use Rattle.refinement.proofs.OneSegment.{open-rows}
 use Rattle.refinement.proofs.LevelOne.{level-one}
 use Rattle.refinement.proofs.SkipWalk.{Reaches, walk-reaches}
 
-pub both-true : (a b : Bool) → (a && b) ≡ true → (a ≡ true) × (b ≡ true)
-both-true true b e = (refl, e)
-both-true false b e = absurd (let z : _≡_ {A = ℕ} 0 1 = cc in omega arith)
-
 module _ (h : History) (g : Good h) (t1 t2 : ℕ) (k1 k2 : ℤ) (ok1 : loadOk k1 ≡ true) (ok2 : loadOk k2 ≡ true) where
   abbrev q : Query
   q = queryOf t1 t2 k1 k2
@@ -45,7 +43,10 @@ module _ (h : History) (g : Good h) (t1 t2 : ℕ) (k1 k2 : ℤ) (ok1 : loadOk k1
   abbrev closedLifts : List Lift
   closedLifts = among t1 t2 k1 k2 (joined (h .log .closed))
 
-  -- a search that ends at once
+  -- "unless that segment has lifts and its start ≤ t1": a search that ends at once
+  abbrev done : Cursor
+  done = record { good = true; last = true; next = Skip.none; before = openSerial (h .log) }
+
   ended : (c : Cursor) → c .last ≡ true → (n : ℕ) → rowsFrom (n + 1) (nandImage h) (h .log .slots) (liveOf (h .log)) q c ≡ some []
   unfolding rowsFrom advanceOf
   ended c e n = rw (add-one n, e)
@@ -63,16 +64,21 @@ module _ (h : History) (g : Good h) (t1 t2 : ℕ) (k1 k2 : ℤ) (ok1 : loadOk k1
     where
       all : closedLifts ≡ among t1 t2 k1 k2 (joined (r .older))
       all =
-          ap (λ (c : List (List Lift)). among t1 t2 k1 k2 (joined c)) (r .is) ∙ ap (among t1 t2 k1 k2) (joined-append (r .older) (r .skipped))
+          ap (λ (c : List (List Lift)). among t1 t2 k1 k2 (joined c)) (r .is)
+          ∙ ap (among t1 t2 k1 k2) (joined-append (r .older) (r .skipped))
           ∙ among-append t1 t2 k1 k2 (joined (r .older)) (joined (r .skipped))
           ∙ ap (λ (x : List Lift). among t1 t2 k1 k2 (joined (r .older)) ++ x) (r .unwanted) ∙ append-nil _
 
   -- the open segment has lifts and its start ≤ t1: all closed ones are earlier
   all-early : (not (eqb (length (h .log .current)) 0) && leb (S.startTime (h .log .current)) t1) ≡ true → closedLifts ≡ []
   all-early e =
-      let b = both-true (not (eqb (length (h .log .current)) 0)) (leb (S.startTime (h .log .current)) t1) e in
+      let b = both (not (eqb (length (h .log .current)) 0)) (leb (S.startTime (h .log .current)) t1) e in
       early-all t1 t2 k1 k2 (g .closed)
-      (omega (arith, start-below (h .log .current) (g .current) (some-lift (h .log .current) (b .0)) .0, leb-true (S.startTime (h .log .current)) t1 (b .1)))
+      (omega (
+        arith,
+        start-below (h .log .current) (g .current) (some-lift (h .log .current) (b .0)) .0,
+        leb-true (S.startTime (h .log .current)) t1 (b .1),
+      ))
     where
       some-lift : (ls : List Lift) → not (eqb (length ls) 0) ≡ true → 0 < length ls
       some-lift [] e = absurd (let z : _≡_ {A = ℕ} 0 1 = cc in omega arith)
@@ -83,14 +89,18 @@ module _ (h : History) (g : Good h) (t1 t2 : ℕ) (k1 k2 : ℤ) (ok1 : loadOk k1
   closed-found = go (not (eqb (length (h .log .current)) 0) && leb (S.startTime (h .log .current)) t1) refl
     where
       go : (t : Bool) → (not (eqb (length (h .log .current)) 0) && leb (S.startTime (h .log .current)) t1) ≡ t
-          → closedFound (nandImage h) log q (cond t (record { good = true; last = true; next = Skip.none; before = openSerial (h .log) }) (reachedBy (skipWalk (nandImage h) log t2))) ≡ some (map rowOf closedLifts)
-      go true e = ended (record { good = true; last = true; next = Skip.none; before = openSerial (h .log) }) refl (openSerial (h .log)) ∙ ap (λ (x : List Lift). some (map rowOf x)) (sym (all-early e))
+          → closedFound (nandImage h) log q (cond t done (reachedBy (skipWalk (nandImage h) log t2)))
+          ≡ some (map rowOf closedLifts)
+      go true e = ended done refl (openSerial (h .log)) ∙ ap (λ (x : List Lift). some (map rowOf x)) (sym (all-early e))
       go false e = walked (skipWalk (nandImage h) log t2) (walk-reaches h g t1 t2 k1 k2)
 
-  pub search-found : foundRows (image h .nand) (image h .nor) (image h .state .page) (logOf (image h .state) (h .log .slots)) (queryOf t1 t2 k1 k2)
-      ≡ some (map rowOf (found (h .log) t1 t2 k1 k2))
+  pub search-found : foundRows (image h .nand) (image h .nor) (image h .state .page) (logOf (image h .state) (h .log .slots))
+      (queryOf t1 t2 k1 k2) ≡ some (map rowOf (found (h .log) t1 t2 k1 k2))
   unfolding foundRows image stateImage found
   search-found =
-      rw (closed-found, open-rows t1 t2 k1 k2 ok1 ok2 (h .log .current) (g .segment) (nandImage h) log (current-reads h g) refl refl)
+      rw (
+        closed-found,
+        open-rows t1 t2 k1 k2 ok1 ok2 (h .log .current) (g .segment) (nandImage h) log (current-reads h g) refl refl,
+      )
       (ap some (sym (map-append rowOf closedLifts (among t1 t2 k1 k2 (h .log .current)))
       ∙ ap (map rowOf) (sym (among-append t1 t2 k1 k2 (joined (h .log .closed)) (h .log .current)))))

@@ -1,5 +1,5 @@
--- A search on a history's world replies what the paper log answers: its number, and where that is 0 the found lifts' rows in front of the result area.
--- Assumes nothing.
+-- A search on a history's world replies what the paper log answers: its number, and where that is 0 the found lifts' rows in
+-- front of the result area. Assumes nothing.
 use mathlib.Core.Path.{_≡_, refl, sym, ap, _∙_}
 use mathlib.Core.Bool.{Bool, true, false, cond, not, _&&_, _||_}
 use mathlib.Core.Option.{some}
@@ -13,6 +13,7 @@ use borrow.Author.Tests.{eqb-true}
 use Rattle.codec.specs.Area.{splice}
 use Rattle.bounds.specs.Grounds.{queryGround}
 use Rattle.lift.specs.Limits.{timeOk, loadOk}
+use Rattle.tree.proofs.Clears.{both}
 use Rattle.search.specs.Answers.{searchAnswer, rowBytes}
 use Rattle.search.specs.Found.{foundRows}
 use Rattle.store.specs.Queries.{logOf, queryOf, searchGround, searchOutcome}
@@ -24,7 +25,7 @@ use Rattle.refinement.specs.Run.{Reply, searched, callOf}
 use Rattle.refinement.proofs.Good.{Good}
 use Rattle.refinement.proofs.Grounds.{state-passes}
 use Rattle.refinement.proofs.Steps.{first-zero, passed}
-use Rattle.refinement.proofs.SearchFound.{both-true, search-found}
+use Rattle.refinement.proofs.SearchFound.{search-found}
 
 -- ---- the numbers
 
@@ -60,7 +61,7 @@ module _ (h : History) (g : Good h) (k t1 t2 : ℕ) (k1 k2 : ℤ) where
       let a = first-zero 0 (not (eqb k (h .log .slots))) _ e in
       let b = first-zero 3 (not (timeOk t1 && timeOk t2)) _ (a .1) in
       let c = first-zero 4 (not (loadOk k1 && loadOk k2)) _ (b .1) in
-      let ok = both-true (loadOk k1) (loadOk k2) (passed _ (c .0)) in
+      let ok = both (loadOk k1) (loadOk k2) (passed _ (c .0)) in
       let s : k ≡ h .log .slots = eqb-true k (h .log .slots) (passed _ (a .0)) in
       rw s (search-found h g t1 t2 k1 k2 (ok .0) (ok .1))
 
@@ -73,7 +74,11 @@ module _ (h : History) (g : Good h) (k t1 t2 : ℕ) (k1 k2 : ℤ) where
 
     -- the reply of that number
     abbrev replyOf : ℕ → Reply
-    replyOf n = record { number = n; count = cond (eqb n 0) (length (found (h .log) t1 t2 k1 k2)) 0; area = cond (eqb n 0) (splice area 0 (rowBytes rows)) area }
+    replyOf n = record {
+      number = n;
+      count = cond (eqb n 0) (length (found (h .log) t1 t2 k1 k2)) 0;
+      area = cond (eqb n 0) (splice area 0 (rowBytes rows)) area;
+    }
 
     abbrev isFull : Bool
     isFull = ltb (length area / 32) (length (found (h .log) t1 t2 k1 k2))
@@ -81,7 +86,8 @@ module _ (h : History) (g : Good h) (k t1 t2 : ℕ) (k1 k2 : ℤ) where
     number-is : number ≡ cond (eqb window 0) (Paper.ground 12 isFull 0) window
     unfolding Paper.numberOf queryGround
     number-is =
-        last-ground (not (eqb k (h .log .slots))) (not (timeOk t1 && timeOk t2)) (not (loadOk k1 && loadOk k2)) (ltb t2 t1 || ltZ k2 k1)
+        last-ground (not (eqb k (h .log .slots))) (not (timeOk t1 && timeOk t2)) (not (loadOk k1 && loadOk k2))
+        (ltb t2 t1 || ltZ k2 k1)
         (Paper.ground 12 isFull 0)
 
     answer-is : searched (searchAnswer area (some rows)) ≡ replyOf (Paper.ground 12 isFull 0)
@@ -89,13 +95,15 @@ module _ (h : History) (g : Good h) (k t1 t2 : ℕ) (k1 k2 : ℤ) where
     answer-is = rw (length-map (found (h .log) t1 t2 k1 k2) rowOf) (go isFull)
       where
         go : (t : Bool) → searched (cond t (record { number = 12; count = 0; area = area })
-            (record { number = 0; count = length (found (h .log) t1 t2 k1 k2); area = splice area 0 (rowBytes rows) })) ≡ replyOf (Paper.ground 12 t 0)
+            (record { number = 0; count = length (found (h .log) t1 t2 k1 k2); area = splice area 0 (rowBytes rows) }))
+            ≡ replyOf (Paper.ground 12 t 0)
         go true = refl
         go false = refl
 
     pub search-step : searched (searchOutcome (image h) k t1 t2 k1 k2 area) ≡ record {
       number = Paper.numberOf (h .log) (Paper.search k t1 t2 k1 k2 (length area / 32));
-      count = cond (eqb (Paper.numberOf (h .log) (Paper.search k t1 t2 k1 k2 (length area / 32))) 0) (length (found (h .log) t1 t2 k1 k2)) 0;
+      count = cond (eqb (Paper.numberOf (h .log) (Paper.search k t1 t2 k1 k2 (length area / 32))) 0)
+          (length (found (h .log) t1 t2 k1 k2)) 0;
       area = cond (eqb (Paper.numberOf (h .log) (Paper.search k t1 t2 k1 k2 (length area / 32))) 0)
           (splice area 0 (rowBytes (map rowOf (found (h .log) t1 t2 k1 k2)))) area;
     }
@@ -103,7 +111,8 @@ module _ (h : History) (g : Good h) (k t1 t2 : ℕ) (k1 k2 : ℤ) where
     search-step = rw ground-is (go (eqb window 0) refl ∙ ap replyOf (sym number-is))
       where
         go : (t : Bool) → eqb window 0 ≡ t
-            → searched (cond t (searchAnswer area (foundRows (image h .nand) (image h .nor) (image h .state .page) (logOf (image h .state) k) (queryOf t1 t2 k1 k2)))
+            → searched (cond t (searchAnswer area
+            (foundRows (image h .nand) (image h .nor) (image h .state .page) (logOf (image h .state) k) (queryOf t1 t2 k1 k2)))
             (record { number = window; count = 0; area = area }))
             ≡ replyOf (cond t (Paper.ground 12 isFull 0) window)
         go true e = rw (found-if (eqb-true window 0 e)) answer-is

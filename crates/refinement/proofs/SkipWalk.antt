@@ -1,19 +1,20 @@
--- The skip walk ends in front of closed segments that have no wanted lift: each hop leads to a retained segment that starts after t2, so it and all
--- behind it are too late. By induction on the hops. Assumes nothing.
+-- The skip walk ends in front of closed segments that have no wanted lift: each hop leads to a retained segment that starts
+-- after t2, so it and all behind it are too late. By induction on the hops. Assumes nothing.
 use mathlib.Core.Path.{_≡_, refl, sym, ap, subst, _∙_}
-use mathlib.Core.Bool.{Bool, true, false, cond, not, _&&_}
-use mathlib.Core.List.{List, [], _∷_, _++_, map, append-assoc, append-nil}
-use Prim.Native.Nat.{ℕ, zero, suc, _+_, _≤_, _<_}
+use mathlib.Core.Bool.{Bool, true, false, cond, _&&_}
+use mathlib.Core.List.{List, [], _∷_, _++_, append-assoc, append-nil}
+use Prim.Native.Nat.{ℕ, zero, suc, _+_, _<_}
 use native.Mathlib.Nat.{le-refl}
 use native.Mathlib.Omega.{arith}
-use lib.Dec.{leb, ltb}
+use lib.Dec.{ltb}
 use lib.IntN.{ℤ}
 use lib.ListN.{length, getD, length-append}
 use borrow.Author.Tests.{ltb-true}
 use Rattle.skiplist.specs.declared.Pointer.{Pointer}
-use Rattle.skiplist.specs.Skip.{none, isLive, nodeOf, levelOf}
+use Rattle.skiplist.specs.Skip.{none, isLive}
 use Rattle.segment.specs.declared.Header.{Header}
 use Rattle.segment.proofs.HeaderRead.{headerOf}
+use Rattle.tree.proofs.Clears.{both}
 use Rattle.walk.specs.declared.SkipWalk.{SkipWalk}
 use Rattle.walk.specs.Seek.{headerAt, hopAt, hop, hops, skipWalk}
 use Rattle.store.specs.Queries.{logOf}
@@ -25,17 +26,13 @@ use Rattle.refinement.proofs.Good.{Times, Segments, Good}
 use Rattle.refinement.proofs.PageFrom.{headsAt}
 use Rattle.refinement.proofs.Retained.{facts, retained-header}
 use Rattle.refinement.proofs.Wanted.{none-wanted, late-all}
-use Rattle.refinement.proofs.Pointers.{pointerTo, Leads, dead, to, leads-heads, leads-node}
+use Rattle.refinement.proofs.Pointers.{Leads, dead, to, leads-heads, leads-node}
 
 -- next time before a segment may be taken as its start
 from-start : (ls : List Lift) {n k m : ℕ} (rest : List (List Lift)) → 0 < length ls → Times n ls k → Segments k rest m
     → Segments (S.startTime ls) (ls ∷ rest) m
 from-start [] rest h t r = absurd (omega arith)
 from-start (l ∷ ls) rest h (G.more a t) r = G.more (G.more (le-refl _) t) r
-
-and-right : (a b : Bool) → (a && b) ≡ true → b ≡ true
-and-right true b e = e
-and-right false b e = cc
 
 module _ (h : History) (t1 t2 : ℕ) (k1 k2 : ℤ) where
   -- the walk is behind some closed segments, and those it has skipped have no wanted lift
@@ -53,7 +50,8 @@ module _ (h : History) (g : Good h) (t1 t2 : ℕ) (k1 k2 : ℤ) where
   At w = Reaches h t1 t2 k1 k2 w
 
   -- a retained segment that starts after t2
-  too-late : (before : List (List Lift)) (ls : List Lift) (after : List (List Lift)) → h .log .closed ≡ before ++ (ls ∷ after) → t2 < S.startTime ls
+  too-late : (before : List (List Lift)) (ls : List Lift) (after : List (List Lift)) → h .log .closed ≡ before ++ (ls ∷ after)
+      → t2 < S.startTime ls
       → among t1 t2 k1 k2 (joined (ls ∷ after)) ≡ []
   too-late before ls after is l =
       let a = facts h g before ls after is in
@@ -88,9 +86,11 @@ module _ (h : History) (g : Good h) (t1 t2 : ℕ) (k1 k2 : ℤ) where
           r .is ∙ ap (λ (x : List (List Lift)). x ++ r .skipped) eq ∙ append-assoc before (ls ∷ after) (r .skipped) in
           let n = ap length eq ∙ length-append before (ls ∷ after) in
           let late : t2 < S.startTime ls =
-          ltb-true t2 (S.startTime ls) (ap (λ (x : Pointer). ltb t2 (x .time)) (sym q) ∙ and-right (isLive p (liveOf (h .log))) (ltb t2 (p .time)) e) in
+          ltb-true t2 (S.startTime ls) (ap (λ (x : Pointer). ltb t2 (x .time)) (sym q)
+          ∙ both (isLive p (liveOf (h .log))) (ltb t2 (p .time)) e .1) in
           let read : headerAt (nandImage h) (h .log .slots) p (w .before)
-              ≡ headerOf (S.closingOf (h .log .oldest + length before) ls (headsAt (h .log .slots) (h .log .oldest) before (oldestHeads h))) true =
+          ≡ headerOf (S.closingOf (h .log .oldest + length before) ls
+          (headsAt (h .log .slots) (h .log .oldest) before (oldestHeads h))) true =
           ap (λ (x : Pointer). headerAt (nandImage h) (h .log .slots) x (w .before)) q
           ∙ retained-header h g before ls (after ++ r .skipped) there (w .before) (omega (arith, r .before)) in
           subst (λ (hd : Header). At (moved hd)) (sym read) (record {

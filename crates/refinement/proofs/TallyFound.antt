@@ -1,17 +1,15 @@
--- A tally on a history's world counts, by plate, the lifts that the paper log's search over all loads finds: each found row has its lift's stored
--- load. Assumes nothing.
-use mathlib.Core.Path.{_≡_, refl, sym, ap, ap₂, _∙_}
-use mathlib.Core.Bool.{Bool, true, false, cond, not, _&&_, _||_}
-use mathlib.Core.Option.{some}
+-- A tally on a history's world counts, by plate, the lifts that the paper log's search over all loads finds: each found row has
+-- its lift's stored load. Assumes nothing.
+use mathlib.Core.Path.{_≡_, refl, ap, ap₂, _∙_}
+use mathlib.Core.Bool.{Bool, true, false, cond}
 use mathlib.Core.List.{List, [], _∷_, _++_, map}
-use Prim.Native.Nat.{ℕ, _+_, _^_, _≤_, _<_}
+use Prim.Native.Nat.{ℕ, _≤_}
 use native.Mathlib.Omega.{arith}
-use lib.Dec.{eqb, ltb}
+use lib.Dec.{eqb}
 use lib.IntN.{ℤ, pos, negsuc}
-use lib.ListN.{length}
 use borrow.Author.Tests.{eqb-true, eq-eqb, le-leb, le-ltb}
 use Rattle.codec.proofs.Areas.{part-all}
-use Rattle.lift.specs.Limits.{timeOk, stored}
+use Rattle.lift.specs.Limits.{stored}
 use Rattle.lift.specs.Record.{codeAt}
 use Rattle.lift.proofs.Codes.{within-limits}
 use Rattle.lift.proofs.Records.{length-record, record-read}
@@ -58,7 +56,8 @@ row-code : (l : Lift) → GoodLift l → codeAt (rowOf l) 0 ≡ stored (l .load)
 row-code l g =
     let n = length-record (l .time) (stored (l .load)) (l .note) (g .note) in
     let k = within-limits (l .load) (g .load) in
-    record-read (l .time) (stored (l .load)) (l .note) (omega (arith, g .time)) (omega (arith, k .high)) (g .note) (rowOf l) 0 (omega arith)
+    record-read (l .time) (stored (l .load)) (l .note) (omega (arith, g .time)) (omega (arith, k .high)) (g .note) (rowOf l) 0
+    (omega arith)
     (part-all (rowOf l) 32 n) .code-is
 
 pub row-codes : (ls : List Lift) → GoodLifts ls → rowCodes (map rowOf ls) ≡ codes ls
@@ -86,9 +85,11 @@ module _ (h : History) (g : Good h) (k t1 t2 : ℕ) where
   tally-step = rw (ground-is h g k t1 t2 allLow allHigh) (go (eqb window 0) refl)
     where
       go : (t : Bool) → eqb window 0 ≡ t
-          → cond t (tallyAnswer (foundRows (image h .nand) (image h .nor) (image h .state .page) (logOf (image h .state) k) (queryOf t1 t2 allLow allHigh)))
+          → cond t (tallyAnswer (foundRows (image h .nand) (image h .nor) (image h .state .page) (logOf (image h .state) k)
+          (queryOf t1 t2 allLow allHigh)))
           (record { number = window; counts = noCounts })
-          ≡ cond t (record { number = 0; counts = countsOf (codes (found (h .log) t1 t2 allLow allHigh)) }) (record { number = window; counts = noCounts })
+          ≡ cond t (record { number = 0; counts = countsOf (codes (found (h .log) t1 t2 allLow allHigh)) })
+          (record { number = window; counts = noCounts })
       go true e =
           rw (found-if h g k t1 t2 allLow allHigh (eqb-true window 0 e))
           (ap {B = TallyAnswer} (λ (cs : List ℕ). record { number = 0; counts = countsOf cs })

@@ -1,8 +1,9 @@
--- What a search wants of lists of lifts: part by part, and nothing of lifts that are all before or all after its times. Assumes nothing.
+-- What a search wants of lists of lifts: part by part, and nothing of lifts that are all before or all after its times. Assumes
+-- nothing.
 use mathlib.Core.Path.{_≡_, refl, sym, ap, ap₂, _∙_}
 use mathlib.Core.Bool.{Bool, true, false, cond, _&&_}
 use mathlib.Core.List.{List, [], _∷_, _++_, map, append-assoc}
-use Prim.Native.Nat.{ℕ, zero, suc, _+_, _≤_, _<_}
+use Prim.Native.Nat.{ℕ, suc, _≤_, _<_}
 use native.Mathlib.Omega.{arith}
 use lib.Dec.{leb}
 use lib.IntN.{ℤ, pos}
@@ -50,7 +51,8 @@ module _ (t1 t2 : ℕ) (k1 k2 : ℤ) where
       go false f = d
 
   -- no lift of a list is wanted
-  pub none-wanted : (ls : List Lift) → ((p : ℕ) → p < length ls → wanted t1 t2 k1 k2 (getD ls p noLift) ≡ false) → among t1 t2 k1 k2 ls ≡ []
+  pub none-wanted : (ls : List Lift) → ((p : ℕ) → p < length ls → wanted t1 t2 k1 k2 (getD ls p noLift) ≡ false)
+      → among t1 t2 k1 k2 ls ≡ []
   unfolding among
   none-wanted [] f = refl
   none-wanted (l ∷ ls) f = step-none l ls (f 0 (omega arith)) (none-wanted ls (λ p h. f (suc p) (omega arith)))
@@ -80,9 +82,11 @@ module _ (t1 t2 : ℕ) (k1 k2 : ℤ) where
   pub early-all : {n m : ℕ} {c : List (List Lift)} → Segments n c m → m ≤ t1 → among t1 t2 k1 k2 (joined c) ≡ []
   unfolding joined
   early-all G.none h = none-wanted [] (λ p q. absurd (omega arith))
-  early-all (G.more {l = l} {ls = ls} {rest = rest} t r) h = two (l ∷ ls) (joined rest) (early t (omega (arith, segments-up r))) (early-all r h)
+  early-all (G.more {l = l} {ls = ls} {rest = rest} t r) h =
+      two (l ∷ ls) (joined rest) (early t (omega (arith, segments-up r))) (early-all r h)
 
   pub late-all : {n m : ℕ} {c : List (List Lift)} → Segments n c m → t2 < n → among t1 t2 k1 k2 (joined c) ≡ []
   unfolding joined
   late-all G.none h = none-wanted [] (λ p q. absurd (omega arith))
-  late-all (G.more {l = l} {ls = ls} {rest = rest} t r) h = two (l ∷ ls) (joined rest) (late t h) (late-all r (omega (arith, times-up t)))
+  late-all (G.more {l = l} {ls = ls} {rest = rest} t r) h =
+      two (l ∷ ls) (joined rest) (late t h) (late-all r (omega (arith, times-up t)))
