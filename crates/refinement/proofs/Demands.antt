@@ -151,9 +151,10 @@ module _ (slots : ℕ) (least : 2 ≤ slots) (most : slots ≤ 4096) (nand nor :
     -- the state's serials are the paper log's
     pub serials-kept : (at-end .state .oldest ≡ log-end .oldest) × (at-end .state .current ≡ openSerial log-end)
     unfolding image stateImage
-    serials-kept =
-        (ap (λ (w : World). w .state .oldest) (here .world) ∙ ap (λ (l : Log). l .oldest) (here .log),
-        ap (λ (w : World). w .state .current) (here .world) ∙ ap openSerial (here .log))
+    serials-kept = (
+      ap (λ (w : World). w .state .oldest) (here .world) ∙ ap (λ (l : Log). l .oldest) (here .log),
+      ap (λ (w : World). w .state .current) (here .world) ∙ ap openSerial (here .log),
+    )
 
     -- every retained closed segment reads back as the lifts that went in, in order
     pub segments-read-back : segmentsIn at-end slots ≡ log-end .closed

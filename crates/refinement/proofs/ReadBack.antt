@@ -62,11 +62,11 @@ module _ (h : History) (g : Good h) where
       let b = built h g before ls after is in
       let there = slot-below (h .log .slots) (h .log .oldest + length before) (omega (arith, g .least)) in
       let area : pagesOf (nandImage h) slot 0 20 ≡ S.liftArea ls =
-          pages-are (nandImage h) (S.liftArea ls) slot 0 20 (omega (arith, length-nand h g, there)) (omega arith) (length-liftArea ls (b .lifts) (b .few))
-          (λ i q. let z : 0 + i ≡ i = omega arith in
-          ap (pageOf (nandImage h) slot) z ∙ retained-page h g before ls after is i (omega arith) ∙ rw (lt-ltb i 20 q)) in
+      pages-are (nandImage h) (S.liftArea ls) slot 0 20 (omega (arith, length-nand h g, there)) (omega arith) (length-liftArea ls (b .lifts) (b .few))
+      (λ i q. let z : 0 + i ≡ i = omega arith in
+      ap (pageOf (nandImage h) slot) z ∙ retained-page h g before ls after is i (omega arith) ∙ rw (lt-ltb i 20 q)) in
       let count : numberAt (pageOf (nandImage h) slot 31) 4 2 ≡ length ls =
-          ap (λ (e : Header). e .count) (retained-header h g before ls after is (suc (h .log .oldest + length before)) (omega arith)) in
+      ap (λ (e : Header). e .count) (retained-header h g before ls after is (suc (h .log .oldest + length before)) (omega arith)) in
       ap₂ {C = List Lift} (λ a n. each (liftIn a) 0 n) area count ∙ lifts-read ls (b .lifts) (b .few)
 
   -- all of them, from the oldest serial on
