@@ -9,7 +9,7 @@ use native.Mathlib.Nat.{div-lt-iff-lt-mul, div-add-mod', mod-lt}
 use native.Mathlib.Decide.{decLt, decLe}
 use native.Mathlib.Omega.{arith}
 use lib.ListN.{length, take, drop, getD, length-append, length-take, length-drop, replicate, length-replicate, getD-replicate}
-use lib.ListN.{List·getD-append}
+use lib.ListN.{List·getD-append, replicate-append-replicate}
 use lib.Seq.{length-take-le, drop-drop, take-all, take-add, take-at, drop-at, getD-take, getD-drop, getD-append-add, ext-getD}
 use borrow.Author.Tests.{eqb-true}
 use lib.Dec.{eqb}
@@ -96,6 +96,10 @@ length-repeated n v = length-replicate n v
 pub getD-repeated : (n v i : ℕ) → i < n → getD (repeated n v) i 0 ≡ v
 unfolding repeated
 getD-repeated n v i h = getD-replicate n i v 0 h
+
+pub repeated-append : (a b v : ℕ) → repeated a v ++ repeated b v ≡ repeated (a + b) v
+unfolding repeated
+repeated-append a b v = replicate-append-replicate a b v
 
 pub part-repeated : (n v at m : ℕ) → at + m ≤ n → part (repeated n v) at m ≡ repeated m v
 part-repeated n v at m h =

@@ -1,11 +1,10 @@
 -- A step of the descent: the plan from here is the plan from the root. Assumes nothing.
-use Prim.Native.Nat.{ℕ, zero, suc, _-_, _≤_, _<_}
-use mathlib.Core.Path.{_≡_, refl, sym, ap, subst, _∙_}
-use mathlib.Core.Bool.{Bool, true, false, cond}
+use Prim.Native.Nat.{ℕ, suc, _-_, _≤_, _<_}
+use mathlib.Core.Path.{_≡_, sym, subst, _∙_}
+use mathlib.Core.Bool.{true, false, cond}
 use mathlib.Core.Option.{Option, none, some}
 use mathlib.Core.List.{List}
 use native.Mathlib.Omega.{arith}
-use lib.Dec.{eqb}
 use borrow.Author.Tests.{eq-eqb, ne-eqb}
 use Rattle.tree.specs.Rules.{next}
 use Rattle.tree.specs.Reading.{bucketAt, Node, nodeIn, childAt, kidsOf, nodeGood}
@@ -35,7 +34,10 @@ module _ (area : List ℕ) (buckets count : ℕ) (loads : List ℕ) (l : ℕ) (w
     -- this bucket's part in the plan
     opened : fitted buckets
         (cond (nodeGood node b buckets count)
-        (elim (next (kidsOf node) l) [ none ↦ planHere node b loads l (kidsOf node) | some c ↦ planFrom area buckets count loads l (steps - 1) c ])
+        (elim (next (kidsOf node) l) [
+          | none ↦ planHere node b loads l (kidsOf node)
+          | some c ↦ planFrom area buckets count loads l (steps - 1) c
+        ])
         damaged)
         ≡ w
     unfolding planFrom
@@ -48,7 +50,8 @@ module _ (area : List ℕ) (buckets count : ℕ) (loads : List ℕ) (l : ℕ) (w
       pub step-here : next (kidsOf node) l ≡ none → fitted buckets (planHere node b loads l (kidsOf node)) ≡ w
       step-here e = rw (good, e) at opened
 
-      pub step-down : (c : ℕ) → next (kidsOf node) l ≡ some c → fitted buckets (planFrom area buckets count loads l (steps - 1) c) ≡ w
+      pub step-down : (c : ℕ) → next (kidsOf node) l ≡ some c
+          → fitted buckets (planFrom area buckets count loads l (steps - 1) c) ≡ w
       step-down c e = rw (good, e) at opened
 
       pub step-below : (c : ℕ) → next (kidsOf node) l ≡ some c → c < buckets

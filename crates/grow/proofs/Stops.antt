@@ -1,4 +1,5 @@
--- A bucket on the path: the child that the load goes to, and the plan where it has none, by the same tests as the rules'. Assumes nothing.
+-- A bucket on the path: the child that the load goes to, and the plan where it has none, by the same tests as the rules'.
+-- Assumes nothing.
 use Prim.Native.Nat.{ℕ, _≤_, _<_}
 use mathlib.Core.Path.{_≡_, refl, sym, ap, _∙_}
 use mathlib.Core.Bool.{Bool, true, false, cond, _&&_}
@@ -6,17 +7,17 @@ use mathlib.Core.Option.{none}
 use mathlib.Core.List.{List}
 use native.Mathlib.Omega.{arith}
 use lib.Dec.{leb, ltb, eqb}
-use lib.ListN.{length}
-use borrow.Author.Tests.{lt-ltb, le-ltb, le-leb, lt-leb, eq-eqb, ne-eqb, ltb-true, leb-true}
+use borrow.Author.Tests.{lt-ltb, le-ltb, le-leb, lt-leb, eq-eqb, ne-eqb}
 use Rattle.split.specs.Split.{midpoint}
 use Rattle.tree.specs.Rules.{next}
 use Rattle.tree.specs.Bytes.{noMid}
 use Rattle.tree.specs.Reading as Reading
-use Rattle.tree.specs.Reading.{childAt, kidsOf, kidsGood, positionsGood, nodeIn, nodeGood}
-use Rattle.tree.specs.Plan.{Plan, noRoom, intoBucket, newChild, splitBucket, planHere, fitted}
+use Rattle.tree.specs.Reading.{childAt, kidsOf, nodeIn, nodeGood}
+use Rattle.tree.specs.Plan.{noRoom, intoBucket, newChild, splitBucket, planHere, fitted}
 use Rattle.tree.specs.Seen.{seenNode}
 use Rattle.tree.specs.declared.Node.{Node}
 use Rattle.tree.proofs.Clears.{both}
+use Rattle.tree.proofs.Looked.{sound}
 use Rattle.grow.specs.Sight.{Sees}
 
 -- what was read of the bucket in these bytes
@@ -37,14 +38,10 @@ module _ (s : List ℕ) (b buckets count : ℕ) (n : Node) (is : n ≡ seenNode 
   good-is q e = sym (ap (λ (k : Node). k .good) is) ∙ e
 
   pub good-range : n .good ≡ true → (n .x < n .y) × (n .y ≤ 150001)
-  unfolding nodeGood
   good-range e =
-      let m : Reading.Node = nodeIn s in
       let v = sees in
-      let g = both (ltb (m .x) (m .y) && leb (m .y) 150001) (kidsGood b buckets (m .x) (m .y) (kidsOf m))
-      (both _ (positionsGood count (m .entries)) (good-is true e) .0) .0 in
-      let r = both (ltb (m .x) (m .y)) (leb (m .y) 150001) g in
-      (omega (arith, v .x, v .y, ltb-true (m .x) (m .y) (r .0)), omega (arith, v .y, leb-true (m .y) 150001 (r .1)))
+      let d = sound (nodeIn s) b buckets count (good-is true e) in
+      (omega (arith, v .x, v .y, d .wide), omega (arith, v .y, d .top))
 
 module _ (n : Node) (m : Reading.Node) (s : Sees n m) (l : ℕ) where
   -- ---- the child

@@ -1,8 +1,7 @@
 -- The code's writes are the rules' writes, and stay in the tree's bytes. Assumes nothing.
-use Prim.Native.Nat.{ℕ, _+_, _*_, _≤_, _<_}
-use mathlib.Core.Path.{_≡_, refl, sym, ap, subst, _∙_}
+use Prim.Native.Nat.{ℕ, _≤_}
+use mathlib.Core.Path.{_≡_, sym, subst}
 use native.Mathlib.Omega.{arith}
-use Rattle.tree.specs.Plan as Tree
 use Rattle.tree.specs.Writes.{writesOf}
 use Rattle.tree.proofs.Clears.{Within, Rising, writes-rise}
 use Rattle.grow.specs.Meaning.{meaning, Fitting}

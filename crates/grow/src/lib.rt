@@ -11,7 +11,7 @@ ghost use Rattle.tree.specs.Reading.{childAt, kidsOf};
 ghost use Rattle.tree.specs.Plan.{damaged, intoBucket, planHere, planFrom, fitted, planOn};
 ghost use Rattle.tree.specs.Writes as Tree;
 ghost use Rattle.grow.specs.Meaning.{meaning, Fitting};
-ghost use Rattle.grow.specs.Written.{writeOf, allOf, InTree};
+ghost use Rattle.grow.specs.Written.{writeOf, allOf, growth, InTree};
 ghost use Rattle.grow.specs.Sight.{Sees};
 
 // "An append that finds 320 lifts .. first closes"
@@ -222,7 +222,7 @@ fn entry_write(b: Bucket, i: usize, code: u32, position: u16) -> Write
 
 // A new bucket with its range and its first entry, after a mid and a child's number.
 fn grown(mid: Write, child: Write, n: u8, x: u32, y: u32, code: u32, position: u16) -> Writes
-    ensures { λ r. ⌜ allOf r ≡ record { mid = writeOf mid; child = writeOf child; range = Tree.rangeWrite n x y; entry = Tree.entryWrite n 0 code position } ⌝ }
+    ensures { λ r. ⌜ allOf r ≡ growth (writeOf mid) (writeOf child) n x y code position ⌝ }
 {
     let range = range_write(Bucket(n), x, y);
     let entry = entry_write(Bucket(n), 0, code, position);

@@ -120,7 +120,8 @@ pub fn code_in(lifts: &[u8], tail: &[u8], first: usize, p: usize) -> u32
 pub fn put_row(area: &mut [u8], row: usize, lifts: &[u8], tail: &[u8], first: usize, p: usize)
     requires { ⌜ (p * 32 + 32 ≤ length (now lifts)) × ((p - first) * 32 + 32 ≤ length (now tail)) ⌝ }
     requires { ⌜ row * 32 + 32 ≤ length (now area) ⌝ }
-    ensures { λ _. ⌜ now (area .exit) ≡ splice (now (area .entry)) (row * 32) (recordIn (now (lifts .entry)) (now (tail .entry)) first p) ⌝ }
+    ensures { λ _. ⌜ now (area .exit)
+        ≡ splice (now (area .entry)) (row * 32) (recordIn (now (lifts .entry)) (now (tail .entry)) first p) ⌝ }
 {
     let at = row * RECORD_BYTES;
     if p < first {

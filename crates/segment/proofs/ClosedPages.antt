@@ -1,8 +1,8 @@
--- The pages of a chip after a close: those of the slot that are due hold their images, every other page is as it was. By induction on the
--- pages, from flash's laws of one page. Assumes nothing.
+-- The pages of a chip after a close: those of the slot that are due hold their images, every other page is as it was.
+-- By induction on the pages, from flash's laws of one page. Assumes nothing.
 use mathlib.Core.Path.{_≡_, refl, sym, ap, _∙_}
 use mathlib.Core.Bool.{Bool, true, false, cond}
-use mathlib.Core.List.{List, _++_}
+use mathlib.Core.List.{List}
 use Prim.Native.Nat.{ℕ, zero, suc, _+_, _-_, _*_, _≤_, _<_, min}
 use native.Mathlib.Decide.{decLt, ℕ-discrete}
 use native.Mathlib.Omega.{arith}
@@ -29,7 +29,8 @@ pub record Shaped (nor : List ℕ) (c : Closing) : Type 0 where
 
 -- ---- lengths
 
-pub length-tree : (nor : List ℕ) (buckets i : ℕ) → i * 512 ≤ length nor → buckets * 128 ≤ length nor → length (treePage nor buckets i) ≡ 512
+pub length-tree : (nor : List ℕ) (buckets i : ℕ) → i * 512 ≤ length nor → buckets * 128 ≤ length nor
+    → length (treePage nor buckets i) ≡ 512
 unfolding treePage
 length-tree nor buckets i h k =
     let n = min 512 (buckets * 128 - i * 512) in
@@ -65,7 +66,9 @@ module _ (nor : List ℕ) (c : Closing) (shaped : Shaped nor c) (slots slot : �
         go false = no'
 
     pub length-one : length (pageProgrammed nand nor slot c k) ≡ length nand
-    length-one = by-due (λ t. length t ≡ length nand) (length-programmed nand slots size slot there k (closePage nor c k) h (length-image nor c k shaped)) refl
+    length-one =
+        by-due (λ t. length t ≡ length nand) (length-programmed nand slots size slot there k (closePage nor c k) h
+        (length-image nor c k shaped)) refl
 
     pub one-elsewhere : (slot' p : ℕ) → slot' < slots → p < 32 → (slot' * 32 + p ≡ slot * 32 + k → ⊥)
         → pageOf (pageProgrammed nand nor slot c k) slot' p ≡ pageOf nand slot' p
@@ -77,7 +80,8 @@ module _ (nor : List ℕ) (c : Closing) (shaped : Shaped nor c) (slots slot : �
     unfolding pageProgrammed
     one-here = go (due k)
       where
-        go : (b : Bool) → pageOf (cond b (programmed nand slot k (closePage nor c k)) nand) slot k ≡ cond b (closePage nor c k) (pageOf nand slot k)
+        go : (b : Bool) → pageOf (cond b (programmed nand slot k (closePage nor c k)) nand) slot k
+            ≡ cond b (closePage nor c k) (pageOf nand slot k)
         go true = page-programmed nand slots size slot there k (closePage nor c k) h (length-image nor c k shaped)
         go false = refl
 
@@ -98,7 +102,8 @@ module _ (nor : List ℕ) (c : Closing) (shaped : Shaped nor c) (slots slot : �
   unfolding pagesProgrammed
   page-outside zero q nand size h slot' p l m other = refl
   page-outside (suc n) q nand size h slot' p l m other =
-      page-outside n (suc q) (pageProgrammed nand nor slot c q) (length-one nand size q (omega arith) ∙ size) (omega arith) slot' p l m
+      page-outside n (suc q) (pageProgrammed nand nor slot c q) (length-one nand size q (omega arith) ∙ size)
+      (omega arith) slot' p l m
       (λ k a b. other k (omega arith) (omega arith))
       ∙ one-elsewhere nand size q (omega arith) slot' p l m (other q (omega arith) (omega arith))
 
@@ -114,15 +119,18 @@ module _ (nor : List ℕ) (c : Closing) (shaped : Shaped nor c) (slots slot : �
       nand' = pageProgrammed nand nor slot c q
 
       go : Dec (p ≡ q)
-          → (suc q ≤ p → p < suc q + n → pageOf (pagesProgrammed n (suc q) nand' nor slot c) slot p ≡ cond (due p) (closePage nor c p) (pageOf nand' slot p))
+          → (suc q ≤ p → p < suc q + n → pageOf (pagesProgrammed n (suc q) nand' nor slot c) slot p
+          ≡ cond (due p) (closePage nor c p) (pageOf nand' slot p))
           → pageOf (pagesProgrammed n (suc q) nand' nor slot c) slot p ≡ cond (due p) (closePage nor c p) (pageOf nand slot p)
       go (yes e) ih =
-          page-outside n (suc q) nand' (length-one nand size q (omega arith) ∙ size) (omega arith) slot p there (omega arith) (λ k u v w. omega arith)
+          page-outside n (suc q) nand' (length-one nand size q (omega arith) ∙ size) (omega arith) slot p there (omega arith)
+          (λ k u v w. omega arith)
           ∙ ap (λ (r : ℕ). pageOf nand' slot r) e ∙ one-here nand size q (omega arith)
           ∙ ap (λ (r : ℕ). cond (due r) (closePage nor c r) (pageOf nand slot r)) (sym e)
       go (no f) ih =
           ih (omega arith) (omega arith)
-          ∙ ap (cond (due p) (closePage nor c p)) (one-elsewhere nand size q (omega arith) slot p there (omega arith) (λ w. f (omega arith)))
+          ∙ ap (cond (due p) (closePage nor c p)) (one-elsewhere nand size q (omega arith) slot p there (omega arith)
+          (λ w. f (omega arith)))
 
   -- ---- a close
 
@@ -132,7 +140,8 @@ module _ (nor : List ℕ) (c : Closing) (shaped : Shaped nor c) (slots slot : �
 
     -- a page of the slot
     pub page-closed : (p : ℕ) → p < 32
-        → pageOf (closeProgrammed nand nor slot c) slot p ≡ cond (pageDue (c .count) (c .buckets) p) (closePage nor c p) (pageOf nand slot p)
+        → pageOf (closeProgrammed nand nor slot c) slot p
+        ≡ cond (pageDue (c .count) (c .buckets) p) (closePage nor c p) (pageOf nand slot p)
     page-closed p h = page-inside 32 0 nand size (omega arith) p (omega arith) (omega arith)
 
     -- a page of another slot

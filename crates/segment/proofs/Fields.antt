@@ -1,5 +1,5 @@
--- Fields side by side: written one after the other they are one write, and each is read where it stands. By induction on the fields.
--- Assumes nothing.
+-- Fields side by side: written one after the other they are one write, and each is read where it stands.
+-- By induction on the fields. Assumes nothing.
 use mathlib.Core.Path.{_≡_, refl, sym, ap, _∙_}
 use mathlib.Core.List.{List, [], _∷_, _++_}
 use Prim.Native.Nat.{ℕ, zero, suc, _+_, _-_, _≤_, _<_}
@@ -35,7 +35,8 @@ fields-put s at [] last h = refl
 fields-put s at (f ∷ fs) last h =
     let l = length-append f (joined fs last) in
     let m = length-splice s at f (omega arith) in
-    fields-put (splice s at f) (at + length f) fs last (omega arith) ∙ splice-next s at f (at + length f) (joined fs last) refl (omega arith)
+    fields-put (splice s at f) (at + length f) fs last (omega arith)
+    ∙ splice-next s at f (at + length f) (joined fs last) refl (omega arith)
 
 -- written at the front of an area of one value
 pub front-put : (n v : ℕ) (p : List ℕ) → length p ≤ n → splice (repeated n v) 0 p ≡ p ++ repeated (n - length p) v
@@ -58,4 +59,5 @@ pub field-read : (fs : List (List ℕ)) (last : List ℕ) (k : ℕ) → k < leng
 unfolding part
 field-read [] last k h = absurd (omega arith)
 field-read (f ∷ fs) last zero h = take-at f (joined fs last) (length f) refl
-field-read (f ∷ fs) last (suc k) h = skip f (joined fs last) (startOf fs k) (length (getD fs k [])) ∙ field-read fs last k (omega arith)
+field-read (f ∷ fs) last (suc k) h =
+    skip f (joined fs last) (startOf fs k) (length (getD fs k [])) ∙ field-read fs last k (omega arith)

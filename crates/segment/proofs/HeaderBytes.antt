@@ -1,12 +1,12 @@
 -- A header page written field by field: writes side by side are one write. Assumes nothing.
-use mathlib.Core.Path.{_≡_, refl, sym, ap, _∙_}
+use mathlib.Core.Path.{_≡_, ap, _∙_}
 use mathlib.Core.List.{List, [], _∷_, _++_, append-assoc}
 use Prim.Native.Nat.{ℕ, _+_, _-_, _*_, _≤_, _<_, min}
 use native.Mathlib.Omega.{arith}
-use lib.ListN.{length, drop, length-append}
+use lib.ListN.{length, length-append}
 use Rattle.codec.specs.Area.{part, splice, repeated}
 use Rattle.codec.specs.Number.{bytes}
-use Rattle.codec.proofs.Areas.{splice-next, length-repeated, part-repeated, length-part}
+use Rattle.codec.proofs.Areas.{length-repeated, length-part}
 use Rattle.codec.proofs.Numbers.{length-bytes}
 use Rattle.bloom.specs.Pages.{sectionCount, fragmentLength}
 use Rattle.bloom.proofs.Fragments.{fragment-length}
@@ -18,7 +18,7 @@ use Rattle.skiplist.proofs.Nodes.{length-node}
 use Rattle.segment.specs.declared.Closing.{Closing}
 use Rattle.segment.specs.Header.{countBytes, spanBytes, headerPage}
 use Rattle.segment.specs.Pages.{treePage}
-use Rattle.segment.proofs.Fields.{joined, putAll, fields-put, front-put}
+use Rattle.segment.proofs.Fields.{putAll, fields-put, front-put}
 
 pub level-most : (serial : ℕ) → levelOf serial ≤ 4
 unfolding levelOf
@@ -36,7 +36,8 @@ module _ (s : List ℕ) (serial count buckets sections fragment level : ℕ) (ro
   unfolding countBytes bytes repeated
   counts-put s1 s2 s3 s4 s5 s6 s7 e1 e2 e3 e4 e5 e6 e7 =
       rw (← a, ← b, ← c, e7, e6, e5, e4, e3, e2, e1)
-      (fields-put s 0 (bytes 4 serial ∷ bytes 2 count ∷ bytes 1 buckets ∷ bytes 1 sections ∷ bytes 1 fragment ∷ bytes 1 level ∷ []) (repeated 6 0) room)
+      (fields-put s 0 (bytes 4 serial ∷ bytes 2 count ∷ bytes 1 buckets ∷ bytes 1 sections ∷ bytes 1 fragment ∷ bytes 1 level ∷ [])
+      (repeated 6 0) room)
 
 pub span-put : (s s1 s2 s3 s4 : List ℕ) (start end low high : ℕ) → 40 ≤ length s → s1 ≡ splice s 16 (bytes 8 start)
     → s2 ≡ splice s1 24 (bytes 8 end) → s3 ≡ splice s2 32 (bytes 4 low) → s4 ≡ splice s3 36 (bytes 4 high)
@@ -55,9 +56,11 @@ pub length-span : (start end low high : ℕ) → length (spanBytes start end low
 unfolding spanBytes
 length-span start end low high = simp (length-append, length-bytes)
 
-pub length-node-bytes : (heads : List Pointer) (serial : ℕ) → length heads ≡ 4 → length (pointersBytes (nodeOf heads (levelOf serial))) ≡ 40
+pub length-node-bytes : (heads : List Pointer) (serial : ℕ) → length heads ≡ 4
+    → length (pointersBytes (nodeOf heads (levelOf serial))) ≡ 40
 length-node-bytes heads serial four =
-    length-pointers (nodeOf heads (levelOf serial)) ∙ ap (λ (n : ℕ). 10 * n) (length-node heads four (levelOf serial) (level-most serial))
+    length-pointers (nodeOf heads (levelOf serial))
+    ∙ ap (λ (n : ℕ). 10 * n) (length-node heads four (levelOf serial) (level-most serial))
 
 pub length-header : (c : Closing) → length (c .heads) ≡ 4 → length (headerPage c) ≡ 512
 unfolding headerPage
@@ -82,7 +85,8 @@ page-put c z h1 h2 h3 level node four el en ez e1 e2 e3 =
     let A = countBytes (c .serial) (c .count) (c .buckets) in
     let B = spanBytes (c .start) (c .end) (c .low) (c .high) in
     let w : node ≡ nodeOf (c .heads) (levelOf (c .serial)) = en ∙ ap (nodeOf (c .heads)) el in
-    rw (← w, e3, e2, e1, ez) (chain A B (pointersBytes node) (length-counts _ _ _) (length-span _ _ _ _) (omega (arith, length-pointers node)))
+    rw (← w, e3, e2, e1, ez) (chain A B (pointersBytes node) (length-counts _ _ _) (length-span _ _ _ _)
+    (omega (arith, length-pointers node)))
   where
     chain : (A B C : List ℕ) → length A ≡ 16 → length B ≡ 24 → length C ≡ 40
         → splice (splice (splice (repeated 512 0) 0 A) 16 B) 40 C ≡ A ++ (B ++ (C ++ repeated 432 0))

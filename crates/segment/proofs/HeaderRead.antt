@@ -1,13 +1,12 @@
--- A header page read back gives what was written, and a sound closing's header has no damage: each field is read where it starts. Assumes nothing.
+-- A header page read back gives what was written: each field is read where it starts. Assumes nothing.
 use mathlib.Core.Path.{_≡_, refl, sym, ap, _∙_}
-use mathlib.Core.Bool.{Bool, true, false, _&&_, _||_}
-use mathlib.Core.List.{List, [], _∷_, _++_, append-assoc}
-use Prim.Native.Nat.{ℕ, zero, suc, _+_, _-_, _*_, _^_, _≤_, _<_}
+use mathlib.Core.Bool.{Bool, _&&_}
+use mathlib.Core.List.{List, [], _∷_, append-assoc}
+use Prim.Native.Nat.{ℕ, _+_, _-_, _^_, _≤_, _<_}
 use native.Mathlib.Decide.{decLt}
 use native.Mathlib.Omega.{arith}
-use lib.Dec.{eqb, leb, ltb}
-use lib.ListN.{length, getD, take, replicate}
-use borrow.Author.Tests.{lt-ltb, le-leb, eq-eqb, ltb-true, leb-true, eqb-true}
+use lib.Dec.{ltb}
+use lib.ListN.{length, getD}
 use Rattle.codec.specs.Area.{part, repeated}
 use Rattle.codec.specs.Number.{le, bytes, numberAt}
 use Rattle.codec.proofs.Numbers.{length-bytes, le-bytes}
@@ -19,7 +18,7 @@ use Rattle.skiplist.proofs.Pointers.{PointerFits, pointers-decoded}
 use Rattle.skiplist.proofs.Nodes.{length-node, node-below, node-above}
 use Rattle.segment.specs.declared.Closing.{Closing}
 use Rattle.segment.specs.declared.Header.{Header}
-use Rattle.segment.specs.Header.{countBytes, spanBytes, headerPage, countsGood, spanGood, pointerGood, pointersGood, headerGood, headerIn}
+use Rattle.segment.specs.Header.{countBytes, spanBytes, headerPage, countsGood, spanGood, pointersGood, headerGood, headerIn}
 use Rattle.segment.proofs.Fields.{joined, startOf, field-read}
 use Rattle.segment.proofs.HeaderBytes.{fragment-fits, level-most, length-node-bytes, length-header}
 
@@ -75,7 +74,9 @@ module _ (c : Closing) (last : List ℕ) (f : NumbersFit c) where
     count-is = number-read (fields c) last 1 2 (c .count) (omega arith) refl (omega (arith, f .most));
     buckets-is = number-read (fields c) last 2 1 (c .buckets) (omega arith) refl (omega (arith, f .buckets-fit));
     sections-is = number-read (fields c) last 3 1 (sectionCount (c .count)) (omega arith) refl (omega (arith, f .most));
-    fragment-is = number-read (fields c) last 4 1 (fragmentLength (sectionCount (c .count))) (omega arith) refl (fragment-fits (c .count) _ _ (f .some) (f .most) refl refl);
+    fragment-is =
+        number-read (fields c) last 4 1 (fragmentLength (sectionCount (c .count))) (omega arith) refl
+        (fragment-fits (c .count) _ _ (f .some) (f .most) refl refl);
     level-is = number-read (fields c) last 5 1 (levelOf (c .serial)) (omega arith) refl (omega (arith, level-most (c .serial)));
     start-is = number-read (fields c) last 7 8 (c .start) (omega arith) refl (f .start-fits);
     end-is = number-read (fields c) last 8 8 (c .end) (omega arith) refl (f .end-fits);
@@ -83,7 +84,8 @@ module _ (c : Closing) (last : List ℕ) (f : NumbersFit c) where
     high-is = number-read (fields c) last 10 4 (c .high) (omega arith) refl (f .high-fits);
   }
 
-  pointers-joined : length (c .heads) ≡ 4 → part (joined (fields c) last) 40 40 ≡ pointersBytes (nodeOf (c .heads) (levelOf (c .serial)))
+  pointers-joined : length (c .heads) ≡ 4 → part (joined (fields c) last) 40 40
+      ≡ pointersBytes (nodeOf (c .heads) (levelOf (c .serial)))
   unfolding bytes repeated
   pointers-joined four =
       let l : length (getD (fields c) 11 []) ≡ 40 = length-node-bytes (c .heads) (c .serial) four in
@@ -127,7 +129,8 @@ header-node c f g =
     let m = level-most (c .serial) in
     let e : part (headerPage c) 40 40 ≡ pointersBytes (nodeOf (c .heads) (levelOf (c .serial))) =
     rw page-fields (pointers-joined c (repeated 432 0) f (g .four)) in
-    pointers-read (headerPage c) 40 (nodeOf (c .heads) (levelOf (c .serial))) (length-node (c .heads) (g .four) (levelOf (c .serial)) m)
+    pointers-read (headerPage c) 40 (nodeOf (c .heads) (levelOf (c .serial)))
+    (length-node (c .heads) (g .four) (levelOf (c .serial)) m)
     (node-fits (c .heads) (levelOf (c .serial)) (g .four) m (g .fit)) (omega arith) e
 
 -- ---- the header

@@ -1,17 +1,18 @@
--- The header of a closing within its limits is read back without damage: each test of the header holds of what was written. Assumes nothing.
-use mathlib.Core.Path.{_≡_, refl, ap, ap₂, _∙_}
+-- The header of a closing within its limits is read back without damage: each test of the header holds of what was written.
+-- Assumes nothing.
+use mathlib.Core.Path.{_≡_, refl, _∙_}
 use mathlib.Core.Logic.{_⊎_, inl, inr, ⊎-elim}
 use mathlib.Core.Bool.{Bool, true, false, _&&_, _||_}
 use mathlib.Core.List.{List, [], _∷_, _++_}
 use Prim.Native.Nat.{ℕ, zero, suc, _-_, _^_, _≤_, _<_}
 use native.Mathlib.Omega.{arith}
-use lib.Dec.{eqb, leb, ltb}
+use lib.Dec.{eqb, ltb}
 use lib.ListN.{length, getD, take, replicate}
 use borrow.Author.Tests.{lt-ltb, le-leb, eq-eqb, ltb-true, leb-true, eqb-true}
-use Rattle.lift.specs.Limits.{timeOk, timeLimit, codeOk}
+use Rattle.lift.specs.Limits.{timeOk, timeLimit}
 use Rattle.bloom.specs.Pages.{sectionCount, fragmentLength}
 use Rattle.skiplist.specs.declared.Pointer.{Pointer}
-use Rattle.skiplist.specs.Skip.{none, nodeOf, levelOf, inSlots}
+use Rattle.skiplist.specs.Skip.{none, nodeOf, levelOf}
 use Rattle.skiplist.proofs.Pointers.{PointerFits}
 use Rattle.segment.specs.declared.Closing.{Closing}
 use Rattle.segment.specs.Header.{headerPage, countsGood, spanGood, pointerGood, pointersGood, headerIn}
@@ -42,14 +43,16 @@ pub good-append : (slots : ℕ) (ps qs : List Pointer) → pointersGood slots ps
 unfolding pointersGood
 good-append slots [] qs e f = f
 good-append slots (p ∷ ps) qs e f =
-    and-intro (pointerGood slots p) (pointersGood slots (ps ++ qs)) (and-left _ _ e) (good-append slots ps qs (and-right (pointerGood slots p) _ e) f)
+    and-intro (pointerGood slots p) (pointersGood slots (ps ++ qs)) (and-left _ _ e)
+    (good-append slots ps qs (and-right (pointerGood slots p) _ e) f)
 
 good-take : (slots n : ℕ) (ps : List Pointer) → pointersGood slots ps ≡ true → pointersGood slots (take n ps) ≡ true
 unfolding pointersGood
 good-take slots zero ps e = refl
 good-take slots (suc n) [] e = refl
 good-take slots (suc n) (p ∷ ps) e =
-    and-intro (pointerGood slots p) (pointersGood slots (take n ps)) (and-left _ _ e) (good-take slots n ps (and-right (pointerGood slots p) _ e))
+    and-intro (pointerGood slots p) (pointersGood slots (take n ps)) (and-left _ _ e)
+    (good-take slots n ps (and-right (pointerGood slots p) _ e))
 
 good-none : (slots n : ℕ) → pointersGood slots (replicate n none) ≡ true
 unfolding pointersGood pointerGood
@@ -57,7 +60,8 @@ good-none slots zero = refl
 good-none slots (suc n) = good-none slots n
 
 -- a node of good heads is good
-pub good-node : (slots : ℕ) (heads : List Pointer) (level : ℕ) → pointersGood slots heads ≡ true → pointersGood slots (nodeOf heads level) ≡ true
+pub good-node : (slots : ℕ) (heads : List Pointer) (level : ℕ) → pointersGood slots heads ≡ true
+    → pointersGood slots (nodeOf heads level) ≡ true
 unfolding nodeOf
 good-node slots heads level e =
     good-append slots (take level heads) (replicate (4 - level) none) (good-take slots level heads e) (good-none slots (4 - level))
@@ -74,7 +78,8 @@ good-fits slots p h e = record {
   time = omega (arith, leb-true (p .time) timeLimit (and-left _ _ e));
 }
 
-heads-fit : (slots : ℕ) (ps : List Pointer) (k : ℕ) → slots ≤ 4096 → pointersGood slots ps ≡ true → k < length ps → PointerFits (getD ps k none)
+heads-fit : (slots : ℕ) (ps : List Pointer) (k : ℕ) → slots ≤ 4096 → pointersGood slots ps ≡ true → k < length ps
+    → PointerFits (getD ps k none)
 unfolding pointersGood
 heads-fit slots [] k h e l = absurd (omega arith)
 heads-fit slots (p ∷ ps) zero h e l = good-fits slots p h (and-left _ _ e)
@@ -85,8 +90,10 @@ heads-fit slots (p ∷ ps) (suc k) h e l = heads-fit slots ps k h (and-right (po
 pub good-counts : (count buckets : ℕ) → 1 ≤ count → count ≤ 320 → 1 ≤ buckets → buckets ≤ 36
     → countsGood count buckets (sectionCount count) (fragmentLength (sectionCount count)) ≡ true
 unfolding countsGood
-good-counts count buckets a b c d = rw (le-leb 1 count a, le-leb count 320 b, le-leb 1 buckets c, le-leb buckets 36 d, eq-eqb (sectionCount count) (sectionCount count) refl)
-    (eq-eqb (fragmentLength (sectionCount count)) (fragmentLength (sectionCount count)) refl)
+good-counts count buckets a b c d =
+    let s = sectionCount count in
+    rw (le-leb 1 count a, le-leb count 320 b, le-leb 1 buckets c, le-leb buckets 36 d, eq-eqb s s refl)
+    (eq-eqb (fragmentLength s) (fragmentLength s) refl)
 
 pub good-span : (start end low high : ℕ) → start ≤ end → end ≤ timeLimit → 1 ≤ low → low ≤ high → high ≤ 150001
     → spanGood start end low high ≡ true
@@ -95,7 +102,8 @@ good-span start end low high a b c d e =
     let f : start ≤ timeLimit = omega arith in
     let g : low ≤ 150001 = omega arith in
     let h : 1 ≤ high = omega arith in
-    rw (le-leb start timeLimit f, le-leb end timeLimit b, le-leb start end a, le-leb 1 low c, le-leb low 150001 g, le-leb 1 high h, le-leb high 150001 e) (le-leb low high d)
+    rw (le-leb start timeLimit f, le-leb end timeLimit b, le-leb start end a)
+    (rw (le-leb 1 low c, le-leb low 150001 g, le-leb 1 high h, le-leb high 150001 e) (le-leb low high d))
 
 -- ---- the header
 

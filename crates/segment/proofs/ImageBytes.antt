@@ -1,16 +1,17 @@
--- The images that a close programs are bytes: they are made of bytes of numbers, of NOR, of the buffers and of 0 and 255. Assumes nothing.
-use mathlib.Core.Path.{_≡_, refl, sym, ap, _∙_}
+-- The images that a close programs are bytes: they are made of bytes of numbers, of NOR, of the buffers and of 0 and 255.
+-- Assumes nothing.
+use mathlib.Core.Path.{_≡_, ap, _∙_}
 use mathlib.Core.List.{List, [], _∷_, _++_}
 use Prim.Native.Nat.{ℕ, _+_, _-_, _*_, _≤_, _<_, min}
 use native.Mathlib.Decide.{decLt, decLe}
 use native.Mathlib.Omega.{arith}
-use lib.ListN.{length, getD, take, drop, length-take, List·getD-append, List·getD-eq-default}
+use lib.ListN.{length, getD, drop, length-take, List·getD-append, List·getD-eq-default}
 use lib.Seq.{getD-append-add}
 use Rattle.codec.specs.Area.{part, repeated}
 use Rattle.codec.specs.Number.{bytes}
 use Rattle.codec.proofs.Areas.{getD-part, length-repeated, getD-repeated}
 use Rattle.codec.proofs.Numbers.{bytes-below}
-use Rattle.bloom.specs.Pages.{sectionCount, sectionsFrom, bloomPage, norSection}
+use Rattle.bloom.specs.Pages.{sectionCount, sectionsFrom, bloomPage}
 use Rattle.bloom.proofs.Section.{Bytes}
 use Rattle.bloom.proofs.Fragments.{Length, fragment-length, page-bytes}
 use Rattle.bloom.proofs.Stored.{length-sectionsFrom, whole-section, last-section}
@@ -72,7 +73,9 @@ unfolding headerPage countBytes spanBytes
 bytes-header c = both counts (both span (both (pointers _) (repeats 432 0 (omega arith)))) .all
   where
     counts : AreBytes (countBytes (c .serial) (c .count) (c .buckets))
-    counts = both (number 4 _) (both (number 2 _) (both (number 1 _) (both (number 1 _) (both (number 1 _) (both (number 1 _) (repeats 6 0 (omega arith)))))))
+    counts =
+        both (number 4 _) (both (number 2 _) (both (number 1 _) (both (number 1 _)
+        (both (number 1 _) (both (number 1 _) (repeats 6 0 (omega arith)))))))
 
     span : AreBytes (spanBytes (c .start) (c .end) (c .low) (c .high))
     span = both (number 8 _) (both (number 8 _) (both (number 4 _) (number 4 _)))
@@ -84,13 +87,16 @@ bytes-tree nor buckets i f =
     let front : AreBytes (part nor (i * 512) n) = record { all = bytes-part nor (i * 512) n f } in
     both front (repeats (512 - n) 255 (omega arith)) .all
 
-bytes-sections : (nor buffer : List ℕ) (count : ℕ) → Bytes nor → Bytes buffer → (j : ℕ) → Bytes (getD (sectionsFrom nor buffer count) j [])
+bytes-sections : (nor buffer : List ℕ) (count : ℕ) → Bytes nor → Bytes buffer → (j : ℕ)
+    → Bytes (getD (sectionsFrom nor buffer count) j [])
 bytes-sections nor buffer count f g j = go (decLe ((j + 1) * 64) count) (decLt j (sectionCount count))
   where
     go : Dec ((j + 1) * 64 ≤ count) → Dec (j < sectionCount count) → Bytes (getD (sectionsFrom nor buffer count) j [])
     go (yes h) d = rw (whole-section nor buffer count j h) (bytes-part nor (4608 + 128 * j) 128 f)
     go (no h) (yes k) = rw (last-section nor buffer count j (omega arith) k) g
-    go (no h) (no k) = rw (List·getD-eq-default (sectionsFrom nor buffer count) [] {n = j} (omega (arith, length-sectionsFrom nor buffer count))) (λ i. omega arith)
+    go (no h) (no k) =
+        rw (List·getD-eq-default (sectionsFrom nor buffer count) [] {n = j} (omega (arith, length-sectionsFrom nor buffer count)))
+        (λ i. omega arith)
 
 pub bytes-bloom : (nor buffer : List ℕ) (count i : ℕ) → 1 ≤ count → count ≤ 320 → Bytes nor → Bytes buffer
     → Bytes (bloomPage (sectionsFrom nor buffer count) i)
@@ -114,5 +120,6 @@ bytes-image nor c p f v = go (decLt p 20) (decLt p 29) (decLt p 31)
     go (yes h) d e = rw (image-lifts nor c p h) (v .page-is-bytes)
     go (no h) (yes k) e = rw (image-tree nor c p (omega arith) k) (bytes-tree nor (c .buckets) (p - 20) (v .nor-bytes))
     go (no h) (no k) (yes l) =
-        rw (image-bloom nor c p (omega arith) l) (bytes-bloom nor (c .bloom) (c .count) (p - 29) (f .some) (f .most) (v .nor-bytes) (v .bloom-bytes))
+        rw (image-bloom nor c p (omega arith) l) (bytes-bloom nor (c .bloom) (c .count) (p - 29) (f .some) (f .most) (v .nor-bytes)
+        (v .bloom-bytes))
     go (no h) (no k) (no l) = rw (image-header nor c p (omega arith)) (bytes-header c)

@@ -5,6 +5,7 @@ pub mod Turns
 pub mod ClosedPages
 pub mod HeaderRead
 pub mod HeaderSound
+pub mod HeaderFacts
 pub mod TreeArea
 pub mod ReadBack
 pub mod LiftsRead

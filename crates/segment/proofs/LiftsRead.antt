@@ -1,4 +1,5 @@
--- The lifts of a segment stand where they stood: the close moves the part-filled page from the buffer to its place behind the full ones. Assumes nothing.
+-- The lifts of a segment stand where they stood: the close moves the part-filled page from the buffer to its place
+-- behind the full ones. Assumes nothing.
 use mathlib.Core.Path.{_≡_, refl, sym, ap, _∙_}
 use mathlib.Core.Bool.{Bool, true, false, cond, not, _&&_}
 use mathlib.Core.List.{List}
@@ -14,7 +15,7 @@ use Rattle.codec.proofs.Areas.{length-part, length-splice, part-before, part-in
 use Rattle.flash.specs.Chip.{pageStart, pageOf, pagesOf}
 use Rattle.lift.specs.Rows.{timeIn, codeIn, recordIn}
 use Rattle.segment.specs.declared.Closing.{Closing}
-use Rattle.segment.specs.Pages.{pageDue, closePage, closeProgrammed}
+use Rattle.segment.specs.Pages.{closeProgrammed}
 use Rattle.segment.proofs.ClosedPages.{Shaped, length-closed, page-closed}
 use Rattle.segment.proofs.Tests.{due-lifts}
 use Rattle.segment.proofs.Turns.{image-lifts}
@@ -41,14 +42,17 @@ module _ (nor : List ℕ) (c : Closing) (shaped : Shaped nor c) (slots slot : �
       let z : 0 + i ≡ i = omega arith in
       let r = length-closed nor c shaped slots slot there nand size in
       page-in-pages (closeProgrammed nand nor slot c) slot 0 20 i (omega arith) (omega arith) h
-      ∙ ap (λ (k : ℕ). pageOf (closeProgrammed nand nor slot c) slot k) z ∙ page-closed nor c shaped slots slot there nand size i (omega arith)
+      ∙ ap (λ (k : ℕ). pageOf (closeProgrammed nand nor slot c) slot k) z
+      ∙ page-closed nor c shaped slots slot there nand size i (omega arith)
       ∙ rw (← due-lifts (c .count) (c .buckets) i h, image-lifts nor c i h)
       (ap (cond (not (eqb (c .count % 16) 0) && eqb i (c .count / 16)) (c .page))
       (ap (λ (k : ℕ). pageOf nand slot k) (sym z) ∙ sym (page-in-pages nand slot 0 20 i (omega arith) (omega arith) h)))
 
   -- no page is part-filled
   pub lifts-whole : c .count % 16 ≡ 0 → pagesOf (closeProgrammed nand nor slot c) slot 0 20 ≡ pagesOf nand slot 0 20
-  lifts-whole e = agree-at-parts after before 512 20 (omega arith) length-after length-before (λ i h. page-after i h ∙ rw (eq-eqb (c .count % 16) 0 e))
+  lifts-whole e =
+      agree-at-parts after before 512 20 (omega arith) length-after length-before
+      (λ i h. page-after i h ∙ rw (eq-eqb (c .count % 16) 0 e))
 
   -- one is
   pub lifts-closed : (c .count % 16 ≡ 0 → ⊥)
@@ -60,19 +64,25 @@ module _ (nor : List ℕ) (c : Closing) (shaped : Shaped nor c) (slots slot : �
       (length-splice before (c .count / 16 * 512) (c .page) q ∙ l)
       (λ i h. page-after i h ∙ rw (ne-eqb (c .count % 16) 0 f) (go i h q l (ℕ-discrete i (c .count / 16))))
     where
-      go : (i : ℕ) → i < 20 → c .count / 16 * 512 + length (c .page) ≤ length before → length before ≡ 20 * 512 → Dec (i ≡ c .count / 16)
-          → cond (eqb i (c .count / 16)) (c .page) (part before (i * 512) 512) ≡ part (splice before (c .count / 16 * 512) (c .page)) (i * 512) 512
-      go i h q l (yes e) = rw (eq-eqb i (c .count / 16) e, e) (sym (part-splice before (c .count / 16 * 512) (c .page) q 512 (shaped .page-size)))
+      go : (i : ℕ) → i < 20 → c .count / 16 * 512 + length (c .page) ≤ length before → length before ≡ 20 * 512
+          → Dec (i ≡ c .count / 16)
+          → cond (eqb i (c .count / 16)) (c .page) (part before (i * 512) 512)
+          ≡ part (splice before (c .count / 16 * 512) (c .page)) (i * 512) 512
+      go i h q l (yes e) =
+          rw (eq-eqb i (c .count / 16) e, e) (sym (part-splice before (c .count / 16 * 512) (c .page) q 512 (shaped .page-size)))
       go i h q l (no e) = rw (ne-eqb i (c .count / 16) e) (sym (side (decLt i (c .count / 16))))
         where
-          side : Dec (i < c .count / 16) → part (splice before (c .count / 16 * 512) (c .page)) (i * 512) 512 ≡ part before (i * 512) 512
+          side : Dec (i < c .count / 16) → part (splice before (c .count / 16 * 512) (c .page)) (i * 512) 512
+              ≡ part before (i * 512) 512
           side (yes b) = part-before before (c .count / 16 * 512) (c .page) q (i * 512) 512 (omega arith)
-          side (no b) = part-after before (c .count / 16 * 512) (c .page) q (i * 512) 512 (omega (arith, shaped .page-size)) (omega arith)
+          side (no b) =
+              part-after before (c .count / 16 * 512) (c .page) q (i * 512) 512 (omega (arith, shaped .page-size)) (omega arith)
 
   -- the n bytes from a on of the record at place p
   pub lift-part : (p a n : ℕ) → p < c .count → a + n ≤ 32
       → part (pagesOf (closeProgrammed nand nor slot c) slot 0 20) (p * 32 + a) n
-      ≡ cond (ltb p (c .count / 16 * 16)) (part (pagesOf nand slot 0 20) (p * 32 + a) n) (part (c .page) ((p - c .count / 16 * 16) * 32 + a) n)
+      ≡ cond (ltb p (c .count / 16 * 16)) (part (pagesOf nand slot 0 20) (p * 32 + a) n)
+      (part (c .page) ((p - c .count / 16 * 16) * 32 + a) n)
   lift-part p a n h k = whole (ℕ-discrete (c .count % 16) 0)
     where
       whole : Dec (c .count % 16 ≡ 0)
@@ -86,13 +96,17 @@ module _ (nor : List ℕ) (c : Closing) (shaped : Shaped nor c) (slots slot : �
 
           there' : Dec (p < c .count / 16 * 16)
               → part (splice before (c .count / 16 * 512) (c .page)) (p * 32 + a) n
-              ≡ cond (ltb p (c .count / 16 * 16)) (part before (p * 32 + a) n) (part (c .page) ((p - c .count / 16 * 16) * 32 + a) n)
-          there' (yes l) = rw (lt-ltb p (c .count / 16 * 16) l) (part-before before (c .count / 16 * 512) (c .page) q (p * 32 + a) n (omega arith))
+              ≡ cond (ltb p (c .count / 16 * 16)) (part before (p * 32 + a) n)
+              (part (c .page) ((p - c .count / 16 * 16) * 32 + a) n)
+          there' (yes l) =
+              rw (lt-ltb p (c .count / 16 * 16) l)
+              (part-before before (c .count / 16 * 512) (c .page) q (p * 32 + a) n (omega arith))
           there' (no l) =
               let e : p * 32 + a ≡ c .count / 16 * 512 + ((p - c .count / 16 * 16) * 32 + a) = omega arith in
               rw (le-ltb p (c .count / 16 * 16) (omega arith))
               (ap (λ (i : ℕ). part (splice before (c .count / 16 * 512) (c .page)) i n) e
-              ∙ part-inside before (c .count / 16 * 512) (c .page) q ((p - c .count / 16 * 16) * 32 + a) n (omega (arith, shaped .page-size)))
+              ∙ part-inside before (c .count / 16 * 512) (c .page) q ((p - c .count / 16 * 16) * 32 + a) n
+              (omega (arith, shaped .page-size)))
 
   -- a place of the closed segment is that of the open one
   module _ (p : ℕ) (h : p < c .count) where
@@ -100,7 +114,8 @@ module _ (nor : List ℕ) (c : Closing) (shaped : Shaped nor c) (slots slot : �
     inside = lt-ltb p 320 (omega (arith, shaped .most))
 
     at-start : (n : ℕ) → n ≤ 32
-        → part after (p * 32) n ≡ cond (ltb p (c .count / 16 * 16)) (part before (p * 32) n) (part (c .page) ((p - c .count / 16 * 16) * 32) n)
+        → part after (p * 32) n ≡ cond (ltb p (c .count / 16 * 16)) (part before (p * 32) n)
+        (part (c .page) ((p - c .count / 16 * 16) * 32) n)
     at-start n k =
         let x : p * 32 + 0 ≡ p * 32 = omega arith in
         let y : (p - c .count / 16 * 16) * 32 + 0 ≡ (p - c .count / 16 * 16) * 32 = omega arith in

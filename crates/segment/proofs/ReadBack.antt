@@ -1,19 +1,16 @@
--- What a close programmed is read back: header, Bloom sections, tree and lifts of the slot, in terms of what the close was given. Page by page,
--- from page-closed. Assumes nothing.
-use mathlib.Core.Path.{_≡_, refl, sym, ap, _∙_}
-use mathlib.Core.Bool.{Bool, true, false, cond, not, _&&_}
-use mathlib.Core.List.{List, [], _++_}
+-- What a close programmed is read back: header, Bloom sections and tree of the slot, in terms of what the close was given.
+-- Page by page, from page-closed. Assumes nothing.
+use mathlib.Core.Path.{_≡_, sym, ap, _∙_}
+use mathlib.Core.Bool.{true, false, cond, not}
+use mathlib.Core.List.{List, _++_}
 use Prim.Native.Nat.{ℕ, suc, _+_, _-_, _*_, _/_, _%_, _≤_, _<_}
-use native.Mathlib.Decide.{decLt, decLe, ℕ-discrete}
+use native.Mathlib.Decide.{decLt}
 use native.Mathlib.Omega.{arith}
-use lib.Dec.{eqb, ltb}
-use lib.ListN.{length, getD}
-use borrow.Author.Tests.{lt-ltb, le-ltb, eq-eqb, ne-eqb}
-use Rattle.codec.specs.Area.{part, splice}
-use Rattle.codec.specs.Number.{le}
-use Rattle.codec.proofs.Areas.{length-part, part-add, part-part, length-splice, part-before, part-inside, part-after, part-splice, agree-at-parts}
+use lib.ListN.{length}
+use borrow.Author.Tests.{lt-ltb, le-ltb}
+use Rattle.codec.specs.Area.{part}
+use Rattle.codec.proofs.Areas.{length-part, part-add, part-part, agree-at-parts}
 use Rattle.flash.specs.Chip.{pageStart, pageOf, pagesOf, erasedPage}
-use Rattle.lift.specs.Rows.{timeIn, codeIn, recordIn}
 use Rattle.bloom.specs.Pages.{sectionCount, sectionsFrom, bloomPage, sectionsIn}
 use Rattle.bloom.proofs.Stored.{length-sectionsFrom, length-section}
 use Rattle.bloom.proofs.Pages.{pages-read-back}
@@ -21,8 +18,8 @@ use Rattle.segment.specs.declared.Closing.{Closing}
 use Rattle.segment.specs.Header.{headerPage}
 use Rattle.segment.specs.Pages.{pageDue, treePage, closePage, closeProgrammed}
 use Rattle.segment.proofs.ClosedPages.{Shaped, length-closed, page-closed}
-use Rattle.segment.proofs.Tests.{due-lifts, due-tree}
-use Rattle.segment.proofs.Turns.{image-lifts, image-tree}
+use Rattle.segment.proofs.Tests.{due-tree}
+use Rattle.segment.proofs.Turns.{image-tree}
 use Rattle.segment.proofs.TreeArea.{treeArea, length-tree-area, area-page, area-bucket, page-past}
 
 -- ---- pages side by side
@@ -76,7 +73,8 @@ module _ (nor : List ℕ) (c : Closing) (shaped : Shaped nor c) (slots slot : �
   abbrev sections : List (List ℕ)
   sections = sectionsFrom nor (c .bloom) (c .count)
 
-  pub bloom-closed : pagesOf (closeProgrammed nand nor slot c) slot 29 2 ≡ bloomPage (sectionsFrom nor (c .bloom) (c .count)) 0 ++ pageOf (closeProgrammed nand nor slot c) slot 30
+  pub bloom-closed : pagesOf (closeProgrammed nand nor slot c) slot 29 2
+      ≡ bloomPage (sectionsFrom nor (c .bloom) (c .count)) 0 ++ pageOf (closeProgrammed nand nor slot c) slot 30
   unfolding pageDue closePage
   bloom-closed = pages-first closed slot 29 1 ∙ ap (λ (t : List ℕ). t ++ pageOf closed slot 30) (page 29 (omega arith))
 
@@ -85,7 +83,8 @@ module _ (nor : List ℕ) (c : Closing) (shaped : Shaped nor c) (slots slot : �
   second h = page 30 (omega arith) ∙ rw (lt-ltb 256 (c .count) h)
 
   -- the sections of the open segment are those of the closed one
-  pub sections-closed : sectionsIn (pagesOf (closeProgrammed nand nor slot c) slot 29 2) (sectionCount (c .count)) ≡ sectionsFrom nor (c .bloom) (c .count)
+  pub sections-closed : sectionsIn (pagesOf (closeProgrammed nand nor slot c) slot 29 2) (sectionCount (c .count))
+      ≡ sectionsFrom nor (c .bloom) (c .count)
   sections-closed =
       let l = length-sectionsFrom nor (c .bloom) (c .count) in
       let m = length-part closed (pageStart slot 30) 512 (omega (arith, room-closed)) in
@@ -100,17 +99,20 @@ module _ (nor : List ℕ) (c : Closing) (shaped : Shaped nor c) (slots slot : �
   tree-page-due i h k =
       let d : 20 + i - 20 ≡ i = omega arith in
       let e : pageDue (c .count) (c .buckets) (20 + i) ≡ true =
-      sym (due-tree (c .count) (c .buckets) (20 + i) (omega arith) (omega arith)) ∙ lt-ltb ((20 + i - 20) * 4) (c .buckets) (omega arith) in
+      sym (due-tree (c .count) (c .buckets) (20 + i) (omega arith) (omega arith))
+      ∙ lt-ltb ((20 + i - 20) * 4) (c .buckets) (omega arith) in
       page (20 + i) (omega arith) ∙ rw e (image-tree nor c (20 + i) (omega arith) (omega arith) ∙ ap (treePage nor (c .buckets)) d)
 
   tree-page-not : (i : ℕ) → i < 9 → c .buckets ≤ i * 4 → pageOf closed slot (20 + i) ≡ pageOf nand slot (20 + i)
   tree-page-not i h k =
       let e : pageDue (c .count) (c .buckets) (20 + i) ≡ false =
-      sym (due-tree (c .count) (c .buckets) (20 + i) (omega arith) (omega arith)) ∙ le-ltb ((20 + i - 20) * 4) (c .buckets) (omega arith) in
+      sym (due-tree (c .count) (c .buckets) (20 + i) (omega arith) (omega arith))
+      ∙ le-ltb ((20 + i - 20) * 4) (c .buckets) (omega arith) in
       page (20 + i) (omega arith) ∙ rw e
 
   -- bucket b is as it was in NOR
-  pub bucket-closed : (b : ℕ) → b < c .buckets → part (pagesOf (closeProgrammed nand nor slot c) slot 20 9) (b * 128) 128 ≡ part nor (b * 128) 128
+  pub bucket-closed : (b : ℕ) → b < c .buckets → part (pagesOf (closeProgrammed nand nor slot c) slot 20 9) (b * 128) 128
+      ≡ part nor (b * 128) 128
   bucket-closed b h =
       let few = shaped .few in
       let wide : 4608 ≤ length nor = omega (arith, shaped .nor-size) in
@@ -118,7 +120,8 @@ module _ (nor : List ℕ) (c : Closing) (shaped : Shaped nor c) (slots slot : �
       let l = length-tree-area nor (c .buckets) wide few in
       ap (λ (k : ℕ). part (pagesOf closed slot 20 9) k 128) e
       ∙ part-in-page closed slot 20 9 (b / 4) (b % 4 * 128) 128 room-closed (omega arith) (omega arith) (omega arith)
-      ∙ ap (λ (t : List ℕ). part t (b % 4 * 128) 128) (tree-page-due (b / 4) (omega arith) (omega arith) ∙ sym (area-page nor (c .buckets) wide few (b / 4) (omega arith)))
+      ∙ ap (λ (t : List ℕ). part t (b % 4 * 128) 128)
+      (tree-page-due (b / 4) (omega arith) (omega arith) ∙ sym (area-page nor (c .buckets) wide few (b / 4) (omega arith)))
       ∙ part-part (treeArea nor (c .buckets)) (b / 4 * 512) 512 (b % 4 * 128) 128 (omega arith) (omega arith)
       ∙ ap (λ (k : ℕ). part (treeArea nor (c .buckets)) k 128) (sym e) ∙ area-bucket nor (c .buckets) wide few b h
 
@@ -129,11 +132,14 @@ module _ (nor : List ℕ) (c : Closing) (shaped : Shaped nor c) (slots slot : �
       let few = shaped .few in
       let wide : 4608 ≤ length nor = omega (arith, shaped .nor-size) in
       agree-at-parts (pagesOf closed slot 20 9) (treeArea nor (c .buckets)) 512 9 (omega arith)
-      (length-part closed (pageStart slot 20) 4608 (omega (arith, room-closed))) (length-tree-area nor (c .buckets) wide few) (λ i h.
+      (length-part closed (pageStart slot 20) 4608 (omega (arith, room-closed))) (length-tree-area nor (c .buckets) wide few)
+      (λ i h.
       page-in-pages closed slot 20 9 i room-closed (omega arith) h ∙ go wide few i h (decLt (i * 4) (c .buckets))
       ∙ sym (area-page nor (c .buckets) wide few i h))
     where
-      go : 4608 ≤ length nor → c .buckets ≤ 36 → (i : ℕ) → i < 9 → Dec (i * 4 < c .buckets) → pageOf closed slot (20 + i) ≡ treePage nor (c .buckets) i
+      go : 4608 ≤ length nor → c .buckets ≤ 36 → (i : ℕ) → i < 9 → Dec (i * 4 < c .buckets)
+          → pageOf closed slot (20 + i) ≡ treePage nor (c .buckets) i
       go wide few i h (yes k) = tree-page-due i h k
       go wide few i h (no k) =
-          tree-page-not i h (omega arith) ∙ blank (20 + i) (omega arith) (omega arith) ∙ sym (page-past nor (c .buckets) wide few i h (omega arith))
+          tree-page-not i h (omega arith) ∙ blank (20 + i) (omega arith) (omega arith)
+          ∙ sym (page-past nor (c .buckets) wide few i h (omega arith))

@@ -1,8 +1,8 @@
 -- The tests of a header and of a page, as the code makes them, are the definitions'. Assumes nothing.
-use mathlib.Core.Path.{_≡_, refl, sym}
-use mathlib.Core.Bool.{Bool, true, false, cond, not, _&&_, _||_}
+use mathlib.Core.Path.{_≡_, refl}
+use mathlib.Core.Bool.{Bool, true, false, not, _&&_, _||_}
 use mathlib.Core.List.{List, [], _∷_}
-use Prim.Native.Nat.{ℕ, _+_, _-_, _*_, _/_, _%_, _≤_, _<_}
+use Prim.Native.Nat.{ℕ, _-_, _*_, _/_, _%_, _≤_, _<_}
 use native.Mathlib.Omega.{arith}
 use lib.Dec.{eqb, leb, ltb}
 use lib.ListN.{length, getD}
@@ -24,7 +24,8 @@ unfolding countsGood
 counts-none count buckets sections fragment h = rw (lt-leb 1 count h)
 
 pub counts-some : (count buckets sections fragment s l : ℕ) → 1 ≤ count → s ≡ sectionCount count → l ≡ fragmentLength s
-    → (leb count 320 && ((leb 1 buckets && leb buckets 36) && (eqb sections s && eqb fragment l))) ≡ countsGood count buckets sections fragment
+    → (leb count 320 && ((leb 1 buckets && leb buckets 36) && (eqb sections s && eqb fragment l)))
+    ≡ countsGood count buckets sections fragment
 unfolding countsGood
 counts-some count buckets sections fragment s l h e f = rw (f, e, le-leb 1 count h)
 
@@ -33,7 +34,8 @@ pub span-tests : (start end low high : ℕ) (a b c d : Bool) → a ≡ timeOk st
 unfolding spanGood
 span-tests start end low high a b c d p q r s = rw (p, q, r, s)
 
-pub pointer-tests : (slots : ℕ) (p : Pointer) (a b : Bool) → a ≡ timeOk (p .time) → b ≡ inSlots p slots → (a && b) ≡ pointerGood slots p
+pub pointer-tests : (slots : ℕ) (p : Pointer) (a b : Bool) → a ≡ timeOk (p .time) → b ≡ inSlots p slots
+    → (a && b) ≡ pointerGood slots p
 unfolding pointerGood
 pointer-tests slots p a b e f = rw (e, f)
 

@@ -1,5 +1,5 @@
 -- The tree pages of a close side by side: the buckets of NOR, then 255. Byte by byte. Assumes nothing.
-use mathlib.Core.Path.{_≡_, refl, sym, ap, _∙_}
+use mathlib.Core.Path.{_≡_, sym, ap, _∙_}
 use mathlib.Core.List.{List, _++_}
 use Prim.Native.Nat.{ℕ, _+_, _-_, _*_, _≤_, _<_, min}
 use native.Mathlib.Decide.{decLt}
@@ -7,7 +7,7 @@ use native.Mathlib.Omega.{arith}
 use lib.ListN.{length, getD, length-append, List·getD-append}
 use lib.Seq.{getD-append-add, ext-getD}
 use Rattle.codec.specs.Area.{part, repeated}
-use Rattle.codec.proofs.Areas.{length-part, getD-part, part-add, part-part, part-append-left, length-repeated, getD-repeated, part-repeated}
+use Rattle.codec.proofs.Areas.{length-part, getD-part, part-add, part-part, part-append-left, length-repeated, getD-repeated}
 use Rattle.flash.specs.Chip.{norTree, erasedPage}
 use Rattle.segment.specs.Pages.{treePage}
 use Rattle.segment.proofs.ClosedPages.{length-tree}
@@ -71,7 +71,8 @@ module _ (nor : List ℕ) (buckets : ℕ) (room : 4608 ≤ length nor) (few : bu
       rw e
 
   -- NOR that is 255 past the last bucket
-  pub area-whole : part nor (buckets * 128) (4608 - buckets * 128) ≡ repeated (4608 - buckets * 128) 255 → treeArea nor buckets ≡ norTree nor
+  pub area-whole : part nor (buckets * 128) (4608 - buckets * 128) ≡ repeated (4608 - buckets * 128) 255
+      → treeArea nor buckets ≡ norTree nor
   unfolding treeArea
   area-whole e =
       let n : buckets * 128 + (4608 - buckets * 128) ≡ 4608 = omega arith in

@@ -1,11 +1,10 @@
--- What the page functions go by: a page's image by its number, and the turns of the two loops, where what is left to do from page p on
--- gives what the whole gives. Assumes nothing.
-use mathlib.Core.Path.{_≡_, refl, sym, ap, _∙_}
-use mathlib.Core.Bool.{Bool, true, false, cond, not, _&&_, _||_}
+-- What the page functions go by: a page's image by its number, and the turns of the two loops, where what is left to do
+-- from page p on gives what the whole gives. Assumes nothing.
+use mathlib.Core.Path.{_≡_, sym, ap, _∙_}
+use mathlib.Core.Bool.{Bool, true, false, not, _&&_}
 use mathlib.Core.List.{List}
 use Prim.Native.Nat.{ℕ, suc, _+_, _-_, _*_, _≤_, _<_}
 use native.Mathlib.Omega.{arith}
-use lib.Dec.{ltb}
 use borrow.Author.Tests.{lt-ltb, le-ltb, ltb-true}
 use Rattle.flash.specs.Chip.{pageErased, programmed}
 use Rattle.bloom.specs.Pages.{sectionsFrom, bloomPage}

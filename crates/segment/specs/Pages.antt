@@ -1,8 +1,8 @@
 -- The pages that a close programs (document 01, "Segments"; "Chips and slots": pages of a slot). Assumes nothing.
-use mathlib.Core.Bool.{Bool, true, false, cond, not, _&&_, _||_}
+use mathlib.Core.Bool.{Bool, true, cond, not, _&&_, _||_}
 use mathlib.Core.List.{List, _++_}
 use Prim.Native.Nat.{ℕ, zero, suc, _+_, _-_, _*_, _/_, _%_, min}
-use lib.Dec.{eqb, leb, ltb}
+use lib.Dec.{eqb, ltb}
 use Rattle.codec.specs.Area.{part, repeated}
 use Rattle.flash.specs.Chip.{pageErased, programmed}
 use Rattle.bloom.specs.Pages.{sectionsFrom, bloomPage}

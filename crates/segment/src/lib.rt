@@ -1,9 +1,10 @@
 // A closed segment (document 01, "Segments", "Bloom and skip list"): its header page, and the pages that a close programs.
+use flash::PAGE_BYTES;
 use flash::Page;
 use skiplist::Pointer;
 ghost use mathlib.Core.Path.{_≡_};
 ghost use mathlib.Core.Bool.{true};
-ghost use Prim.Native.Nat.{ℕ, _+_, _*_, _≤_, _<_, min};
+ghost use Prim.Native.Nat.{_+_, _*_, _≤_, _<_, min};
 ghost use lib.ListN.{length};
 ghost use Rattle.codec.specs.Area.{splice, repeated};
 ghost use Rattle.segment.specs.Header.{countBytes, spanBytes, headerPage, countsGood, spanGood, pointerGood, pointersGood};
@@ -23,8 +24,6 @@ pub const BLOOM_PAGE: usize = 29;
 pub const HEADER_PAGE: usize = 31;
 
 const SLOT_PAGES: usize = 32;
-
-const PAGE_BYTES: usize = 512;
 
 const BUCKET_BYTES: usize = 128;
 
@@ -214,7 +213,8 @@ fn tree_page(nor: &[u8], buckets: u8, i: usize) -> [u8; 512]
     d
 }
 
-// Whether a close programs page p.
+// Whether a close programs page p: the part-filled lift page, the tree pages that hold a bucket, page 29, page 30 for five
+// sections (more than 256 lifts), page 31.
 pub fn is_due(count: u16, buckets: u8, p: usize) -> bool
     ensures { λ r. ⌜ r ≡ pageDue count buckets p ⌝ }
 {

@@ -1,3 +1,4 @@
 pub mod Mask
 pub mod Passing
 pub mod Visits
+pub mod Found

@@ -2,12 +2,10 @@
 use Prim.Native.Nat.{ℕ, _^_}
 use mathlib.Core.Path.{_≡_, refl, sym, ap, _∙_, fun-ext}
 use mathlib.Core.Bool.{Bool, true, false, cond}
-use native.Mathlib.Omega.{arith}
 use native.Mathlib.Decide.{ℕ-discrete}
 use lib.Bits.{bitOr}
 use lib.Dec.{leb, ltb, eqb}
 use borrow.Author.Tests.{eq-eqb, ne-eqb}
-use Rattle.bitset.specs.Set.{bit}
 use Rattle.bitset.proofs.Digits.{bit-zero, or-same, or-other}
 use Rattle.tree.specs.Bytes.{noMid}
 use Rattle.tree.specs.Reading.{childAt, kidsOf}

@@ -1,4 +1,5 @@
--- A turn of the sweep is a step of the rules' sweep: a bucket that is not reached, one with damage, one that is opened. Assumes nothing.
+-- A turn of the sweep is a step of the rules' sweep: a bucket that is not reached, one with damage, one that is opened.
+-- Assumes nothing.
 use Prim.Native.Nat.{ℕ, suc, _+_, _-_, _<_, _≤_}
 use mathlib.Core.Path.{_≡_, refl, sym, ap, _∙_, fun-ext}
 use mathlib.Core.Bool.{Bool, true, false, cond, _&&_}
@@ -7,7 +8,7 @@ use mathlib.Core.List.{List, [], _∷_, _++_}
 use native.Mathlib.Nat.{sub-zero}
 use native.Mathlib.Numerals.{add-one}
 use native.Mathlib.Omega.{arith}
-use lib.Dec.{leb, ltb, eqb}
+use lib.Dec.{leb, ltb}
 use lib.ListN.{length}
 use borrow.Author.Tests.{ltb-true, ne-eqb}
 use Rattle.bitset.specs.Set.{emptyWords, insertIn, insertAll}
@@ -20,6 +21,7 @@ use Rattle.tree.specs.Search.{reached, hits}
 use Rattle.tree.specs.Sweep.{recordsGood, andThen, sweepFrom, sweepOn}
 use Rattle.tree.specs.Seen.{headOf, seenNode}
 use Rattle.tree.proofs.Clears.{both}
+use Rattle.tree.proofs.Looked.{sound}
 use Rattle.tree.specs.declared.Node.{Node}
 use Rattle.sweep.specs.declared.Range.{Range}
 use Rattle.sweep.specs.declared.Records.{Records}
@@ -28,7 +30,7 @@ use Rattle.sweep.specs.declared.Turn.{Turn}
 use Rattle.sweep.specs.Swept.{noneSwept, sweptFrom, sweptOf}
 use Rattle.sweep.specs.Turns.{isDue, HasBit, codesOf, withEntries, leadsTo, onward}
 use Rattle.sweep.proofs.Mask.{due-root}
-use Rattle.sweep.proofs.Passing.{together, entries-are}
+use Rattle.sweep.proofs.Passing.{entries-are}
 
 -- ---- a bucket without damage
 
@@ -46,27 +48,22 @@ pub record Opened (bucket : List ℕ) (count : ℕ) (n : Node) : Type 0 where
 module _ (bucket : List ℕ) (b buckets count : ℕ) (n : Node) (few : buckets ≤ 36) (is : n ≡ seenNode bucket b buckets count)
     (good : n .good ≡ true) where
   pub opened : Opened bucket count n
-  unfolding seenNode nodeIn nodeGood kidsOf
+  unfolding seenNode nodeIn kidsOf
   opened =
-      let m : Reading.Node = nodeIn bucket in
-      let g : nodeGood m b buckets count ≡ true = sym (ap (λ (k : Node). k .good) is) ∙ good in
-      let p = both (ltb (m .x) (m .y) && leb (m .y) 150001 && kidsGood b buckets (m .x) (m .y) (kidsOf m)) (positionsGood count (m .entries)) g in
-      let q = both (ltb (m .x) (m .y) && leb (m .y) 150001) (kidsGood b buckets (m .x) (m .y) (kidsOf m)) (p .0) in
+      let v = sound (nodeIn bucket) b buckets count (sym (ap (λ (k : Node). k .good) is) ∙ good) in
       record {
-        positions = p .1;
+        positions = v .positions;
         used = ap (λ (k : Node). k .used) is;
-        kids = λ h. rw is (bits (λ e. h (ap (λ (k : Node). k .mid) is ∙ e)) (q .1));
+        kids = λ h. rw is (bits (nodeIn bucket) (λ e. h (ap (λ (k : Node). k .mid) is ∙ e)) (v .kids));
       }
     where
-      bits : (nodeIn bucket .mid ≡ noMid → ⊥)
-          → kidsGood b buckets (nodeIn bucket .x) (nodeIn bucket .y) (kidsOf (nodeIn bucket)) ≡ true
-          → HasBit (nodeIn bucket .left) × HasBit (nodeIn bucket .right)
-      bits h e =
-          let m : Reading.Node = nodeIn bucket in
-          let a : (ltb (m .x) (m .mid) && leb (m .mid) (m .y) && (childGood b buckets (childAt (m .left)) && childGood b buckets (childAt (m .right)))) ≡ true =
-          rw (ne-eqb (m .mid) noMid h) at e in
-          let c = both (ltb (m .x) (m .mid) && leb (m .mid) (m .y)) (childGood b buckets (childAt (m .left)) && childGood b buckets (childAt (m .right))) a in
-          let d = both (childGood b buckets (childAt (m .left))) (childGood b buckets (childAt (m .right))) (c .1) in
+      bits : (m : Reading.Node) → (m .mid ≡ noMid → ⊥) → kidsGood b buckets (m .x) (m .y) (kidsOf m) ≡ true
+          → HasBit (m .left) × HasBit (m .right)
+      bits m h e =
+          let one : Bool = childGood b buckets (childAt (m .left)) in
+          let two : Bool = childGood b buckets (childAt (m .right)) in
+          let a : (ltb (m .x) (m .mid) && leb (m .mid) (m .y) && (one && two)) ≡ true = rw (ne-eqb (m .mid) noMid h) at e in
+          let d = both one two (both (ltb (m .x) (m .mid) && leb (m .mid) (m .y)) (one && two) a .1) in
           (child-bit b buckets (m .left) few (d .0), child-bit b buckets (m .right) few (d .1))
 
 -- ---- sets
@@ -92,11 +89,15 @@ opens false ws ps e = refl
 -- ---- a turn
 
 module _ (tree : List ℕ) (codes : ℕ → ℕ) (g : Records) (r : Range) (b : ℕ) (t : Turn) where
-  pub turn-passes : (t .good && isDue (t .due) b) ≡ false → (n : ℕ) → onward tree codes g r n (suc b) t ≡ onward tree codes g r (suc n) b t
+  -- with t the sweep has come to bucket b, with u to the next, and n buckets are left after b
+  abbrev pub Turns : Turn → ℕ → Type 0
+  Turns u n = onward tree codes g r n (suc b) u ≡ onward tree codes g r (suc n) b t
+
+  pub turn-passes : (t .good && isDue (t .due) b) ≡ false → (n : ℕ) → Turns t n
   unfolding onward sweepFrom
   turn-passes e n = go (t .good) refl e
     where
-      go : (q : Bool) → t .good ≡ q → (q && isDue (t .due) b) ≡ false → onward tree codes g r n (suc b) t ≡ onward tree codes g r (suc n) b t
+      go : (q : Bool) → t .good ≡ q → (q && isDue (t .due) b) ≡ false → Turns t n
       go false f h = rw f
       go true f h = rw (f, h)
           (swept-none (t .set .words) (sweepFrom tree (g .buckets) (g .count) codes (r .k1) (r .k2) n (suc b) (isDue (t .due))))
@@ -107,21 +108,23 @@ module _ (tree : List ℕ) (codes : ℕ → ℕ) (g : Records) (r : Range) (b : 
     unfolding seenNode
     good-is = sym (ap (λ (k : Node). k .good) is)
 
-    pub turn-spoilt : node .good ≡ false → (u : Turn) → u .good ≡ false → (n : ℕ) → onward tree codes g r n (suc b) u ≡ onward tree codes g r (suc n) b t
+    pub turn-spoilt : node .good ≡ false → (u : Turn) → u .good ≡ false → (n : ℕ) → Turns u n
     unfolding onward sweepFrom
     turn-spoilt e u f n =
         let d = both (t .good) (isDue (t .due) b) due in
         rw (f, d .0, d .1, good-is, e)
 
     pub turn-opens : node .good ≡ true → (more : ℕ) (found : Sweep)
-        → ((j : ℕ) → isDue more j ≡ reached (r .k1) (r .k2) (kidsOf (headOf 0 0 (node .mid) (node .left) (node .right))) (isDue (t .due)) j)
+        → ((j : ℕ) → isDue more j
+        ≡ reached (r .k1) (r .k2) (kidsOf (headOf 0 0 (node .mid) (node .left) (node .right))) (isDue (t .due)) j)
         → found ≡ withEntries codes r (entriesFrom (bucketAt tree b) 13 0) (record { good = true; set = t .set })
-        → (n : ℕ) → onward tree codes g r n (suc b) (record { good = found .good; due = more; set = found .set }) ≡ onward tree codes g r (suc n) b t
+        → (n : ℕ) → Turns (record { good = found .good; due = more; set = found .set }) n
     unfolding onward sweepFrom seenNode nodeIn kidsOf
     turn-opens e more found reaches finds n =
         let d = both (t .good) (isDue (t .due) b) due in
         let es : List Entry = entriesFrom (bucketAt tree b) 13 0 in
-        let same : isDue more ≡ reached (r .k1) (r .k2) (kidsOf (nodeIn (bucketAt tree b))) (isDue (t .due)) = fun-ext (rw is at reaches) in
+        let same : isDue more ≡ reached (r .k1) (r .k2) (kidsOf (nodeIn (bucketAt tree b))) (isDue (t .due)) =
+        fun-ext (rw is at reaches) in
         ap (λ (s : Sweep). onward tree codes g r n (suc b) (record { good = s .good; due = more; set = s .set }))
         (finds ∙ entries-are codes r es (record { good = true; set = t .set }))
         ∙ rw (d .0, d .1, good-is, e)
@@ -132,12 +135,13 @@ module _ (tree : List ℕ) (codes : ℕ → ℕ) (g : Records) (r : Range) (b : 
 
 module _ (tree lifts tail : List ℕ) (g : Records) (r : Range) where
   pub turn-first : (n : Bits) → n .words ≡ emptyWords
-      → onward tree (codesOf lifts tail g) g r (g .buckets - 0) 0 (record { good = true; due = 1; set = n }) ≡ sweptOf tree lifts tail g r
+      → onward tree (codesOf lifts tail g) g r (g .buckets - 0) 0 (record { good = true; due = 1; set = n })
+      ≡ sweptOf tree lifts tail g r
   unfolding onward sweptOf sweepOn
   turn-first n e =
       rw (sub-zero (g .buckets), e)
-      (ap (λ (d : ℕ → Bool). sweptFrom emptyWords (sweepFrom tree (g .buckets) (g .count) (codesOf lifts tail g) (r .k1) (r .k2) (g .buckets) 0 d))
-      (fun-ext due-root))
+      (ap (λ (d : ℕ → Bool). sweptFrom emptyWords
+      (sweepFrom tree (g .buckets) (g .count) (codesOf lifts tail g) (r .k1) (r .k2) (g .buckets) 0 d)) (fun-ext due-root))
 
 module _ (tree : List ℕ) (codes : ℕ → ℕ) (g : Records) (r : Range) (w : Sweep) (m b : ℕ) (t : Turn)
     (leads : onward tree codes g r (m - b) b t ≡ w) where

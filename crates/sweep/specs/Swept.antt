@@ -1,4 +1,5 @@
--- What a search takes from a tree's bytes (document 01, "Search": "The matches of one segment are a set of 320 bits"). Assumes nothing.
+-- What a search takes from a tree's bytes (document 01, "Search": "The matches of one segment are a set of 320 bits").
+-- Assumes nothing.
 use mathlib.Core.Bool.{true, false}
 use mathlib.Core.Option.{Option, none, some}
 use mathlib.Core.List.{List}

@@ -32,7 +32,10 @@ codesOf lifts tail g = codeIn lifts tail (g .first)
 abbrev pub withEntry : (ℕ → ℕ) → Range → Entry → Sweep → Sweep
 withEntry codes r e s =
     cond (within (r .k1) (r .k2) (e .load))
-    (record { good = s .good && eqb (e .load) (codes (e .position)); set = record { words = insertIn (s .set .words) (e .position) } })
+    (record {
+      good = s .good && eqb (e .load) (codes (e .position));
+      set = record { words = insertIn (s .set .words) (e .position) };
+    })
     s
 
 unfoldable pub withEntries : (ℕ → ℕ) → Range → List Entry → Sweep → Sweep

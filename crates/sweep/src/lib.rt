@@ -1,11 +1,11 @@
-// A search of one tree (document 01, "Search"): its buckets in rising order of their numbers, with a mask of those that are reached.
+// A search of one tree (document 01, "Search"): its buckets in rising order of their numbers, with a mask of those reached.
 use bitset::Bits;
 use tree::Bucket;
 ghost use mathlib.Core.Path.{_≡_};
 ghost use mathlib.Core.Bool.{true};
 ghost use mathlib.Core.Option.{some};
 ghost use mathlib.Core.List.{[]};
-ghost use Prim.Native.Nat.{ℕ, suc, _+_, _*_, _-_, _≤_, _<_};
+ghost use Prim.Native.Nat.{ℕ, suc, _+_, _-_, _≤_, _<_};
 ghost use lib.ListN.{length};
 ghost use Rattle.tree.specs.Bytes.{noMid};
 ghost use Rattle.tree.specs.Reading.{entryIn, entriesFrom, childAt, kidsOf, positionsGood};

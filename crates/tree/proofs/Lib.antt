@@ -15,6 +15,7 @@ pub mod Planned
 pub mod Fields
 pub mod Written
 pub mod Inserted
-pub mod Looked
 pub mod Clears
 pub mod ByteExamples
+pub mod Looked
+pub mod InNor

@@ -1,5 +1,5 @@
--- One bucket as the code reads it: the one rule of its place, the entries counted one by one, mid and children judged by the same
--- tests in the same order. Assumes nothing.
+-- One bucket as the code reads it: the entries counted one by one, mid and children judged by the same tests in the same order.
+-- Assumes nothing.
 use Prim.Native.Nat.{ℕ, zero, suc, _+_, _-_, _*_, _≤_, _<_}
 use mathlib.Core.Path.{_≡_, refl, sym, ap, _∙_}
 use mathlib.Core.Bool.{Bool, true, false, _&&_}
@@ -8,19 +8,14 @@ use native.Mathlib.Numerals.{add-one}
 use native.Mathlib.Omega.{arith}
 use lib.Dec.{ltb, leb, eqb}
 use lib.ListN.{length}
-use borrow.Author.Tests.{eq-eqb, ne-eqb}
+use borrow.Author.Tests.{eq-eqb, ne-eqb, ltb-true, leb-true}
 use Rattle.codec.specs.Number.{numberAt}
-use Rattle.tree.specs.Rules.{Entry}
 use Rattle.tree.specs.Bytes.{noMid}
+use Rattle.tree.specs.Reading as Reading
 use Rattle.tree.specs.Reading.{entryIn, entriesFrom, childAt, childGood, kidsOf, kidsGood, positionsGood, nodeIn, nodeGood}
-use Rattle.tree.specs.Place.{placeOf}
 use Rattle.tree.specs.Seen.{headOf, seenNode}
-use Rattle.tree.specs.declared.Bucket.{Bucket}
+use Rattle.tree.proofs.Clears.{both}
 use Rattle.tree.specs.declared.Node.{Node}
-
--- pages 20 to 28 of a slot as one area: the rule puts bucket b at byte 128 b
-pub place-in-area : (b : Bucket) → (placeOf b .page .0 - 20) * 512 + placeOf b .offset ≡ 128 * b .0
-place-in-area b = omega arith
 
 pub and-true : (a : Bool) → (a && true) ≡ a
 and-true true = refl
@@ -37,7 +32,8 @@ unfolding entriesFrom
 entries-few s zero i = omega arith
 entries-few s (suc n) i = go (eqb (numberAt s (28 + 8 * i) 2) 65535) refl (entries-few s n (suc i))
   where
-    go : (q : Bool) → eqb (numberAt s (28 + 8 * i) 2) 65535 ≡ q → length (entriesFrom s n (suc i)) ≤ n → length (entriesFrom s (suc n) i) ≤ suc n
+    go : (q : Bool) → eqb (numberAt s (28 + 8 * i) 2) 65535 ≡ q → length (entriesFrom s n (suc i)) ≤ n
+        → length (entriesFrom s (suc n) i) ≤ suc n
     go true e h = rw e (omega arith)
     go false e h = rw e (omega arith)
 
@@ -59,7 +55,8 @@ entries-more s (suc n) i h e =
     rw (ne-eqb (numberAt s (28 + 8 * i) 2) 65535 e, add-one i, d)
 
 -- where there is an entry left, it is the one at i
-pub entries-some : (s : List ℕ) (n i : ℕ) → 0 < length (entriesFrom s n i) → entriesFrom s n i ≡ entryIn s i ∷ entriesFrom s (n - 1) (i + 1)
+pub entries-some : (s : List ℕ) (n i : ℕ) → 0 < length (entriesFrom s n i)
+    → entriesFrom s n i ≡ entryIn s i ∷ entriesFrom s (n - 1) (i + 1)
 entries-some s n i h =
     entries-more s n i (omega (arith, entries-few s n i)) (λ e.
     let z : length (entriesFrom s n i) ≡ 0 = ap length (entries-end s n i e) in omega arith)
@@ -118,6 +115,28 @@ module _ (b buckets x y mid left right : ℕ) where
   kids-split e = rw (ne-eqb mid noMid e)
 
 -- ---- the whole bucket
+
+-- what a bucket without damage has
+pub record Sound (n : Reading.Node) (b buckets count : ℕ) : Type 0 where
+  pub wide : n .x < n .y
+  pub top : n .y ≤ 150001
+  pub kids : kidsGood b buckets (n .x) (n .y) (kidsOf n) ≡ true
+  pub positions : positionsGood count (n .entries) ≡ true
+
+pub sound : (n : Reading.Node) (b buckets count : ℕ) → nodeGood n b buckets count ≡ true → Sound n b buckets count
+unfolding nodeGood
+sound n b buckets count e =
+    let range : Bool = ltb (n .x) (n .y) && leb (n .y) 150001 in
+    let kids : Bool = kidsGood b buckets (n .x) (n .y) (kidsOf n) in
+    let p = both (range && kids) (positionsGood count (n .entries)) e in
+    let k = both range kids (p .0) in
+    let r = both (ltb (n .x) (n .y)) (leb (n .y) 150001) (k .0) in
+    record {
+      wide = ltb-true (n .x) (n .y) (r .0);
+      top = leb-true (n .y) 150001 (r .1);
+      kids = k .1;
+      positions = p .1;
+    }
 
 pub seen : (s : List ℕ) (b buckets count x y mid left right used : ℕ) (kids entries : Bool)
     → x ≡ numberAt s 0 4 → y ≡ numberAt s 4 4 → mid ≡ numberAt s 8 4 → left ≡ numberAt s 12 1 → right ≡ numberAt s 13 1

@@ -1,4 +1,5 @@
--- What the code's record of a bucket holds: the bucket as it is read, whether it has damage, and how many entries it has. Assumes nothing.
+-- What the code's record of a bucket holds: the bucket as it is read, whether it has damage, and how many entries it has.
+-- Assumes nothing.
 use Prim.Native.Nat.{ℕ}
 use mathlib.Core.List.{List, []}
 use lib.ListN.{length}

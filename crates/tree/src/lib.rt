@@ -1,13 +1,9 @@
-// The tree of a segment's loads (document 01, "Tree"): where a bucket stands, and what is read of it. The tree's area is 4,608 bytes,
-// in NOR from 0 and in pages 20 to 28 of a slot. The rules and their laws are in specs/ and proofs/.
+// The tree of a segment's loads (document 01, "Tree"): where a bucket stands, and what is read of it. The tree's area is 4,608
+// bytes, in NOR from 0 and in pages 20 to 28 of a slot. The rules and their laws are in specs/ and proofs/.
 use flash::Page;
 ghost use mathlib.Core.Path.{_≡_};
-ghost use mathlib.Core.Bool.{not};
 ghost use Prim.Native.Nat.{_+_, _*_, _≤_, _<_};
-ghost use lib.Dec.{eqb};
 ghost use lib.ListN.{length};
-ghost use Rattle.codec.specs.Number.{numberAt};
-ghost use Rattle.tree.specs.Bytes.{noMid};
 ghost use Rattle.tree.specs.Reading.{bucketAt, entryIn, entriesFrom, childAt, kidsOf, childGood, kidsGood, positionsGood};
 ghost use Rattle.tree.specs.Place.{placeOf};
 ghost use Rattle.tree.specs.Seen.{headOf, seenNode};
@@ -80,7 +76,7 @@ pub fn place_of(b: Bucket) -> Place
     let n = b.0 as usize;
     Place {
         page: Page(FIRST_PAGE + n / BUCKETS_PER_PAGE),
-        offset: n % BUCKETS_PER_PAGE * BUCKET_BYTES,
+        offset: BUCKET_BYTES * (n % BUCKETS_PER_PAGE),
     }
 }
 

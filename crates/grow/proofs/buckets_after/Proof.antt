@@ -1,7 +1,6 @@
 -- `grow::buckets_after` meets its contract, case by case.
 use native.Mathlib.Omega.{arith}
 use Rattle.tree.specs.Writes.{bucketsAfter}
-use Rattle.grow.specs.Meaning.{Fitting}
 use borrow.Author.Needs.{needs}
 use Rattle.grow.proofs.buckets_after.Statement.{statement}
 use Rattle.grow.proofs.buckets_after.Tie as tie

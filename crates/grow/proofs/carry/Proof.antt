@@ -21,7 +21,12 @@ same-length c = search needs
 
 returns : tie.Need-returns
 unfolding allWritten
-returns c = rw (c .before .before .put-write4 .ensures, c .before .before .before .before .before .before .put-write3 .ensures, c .before .before .before .before .before .before .before .before .before .before .put-write2 .ensures, c .before .before .before .before .before .before .before .before .before .before .before .before .before .before .put-write .ensures)
+returns c =
+    let four = c .before .before in
+    let three = four .before .before .before .before in
+    let two = three .before .before .before .before in
+    let one = two .before .before .before .before in
+    rw (four .put-write4 .ensures, three .put-write3 .ensures, two .put-write2 .ensures, one .put-write .ensures)
 
 pub carry-spec : {M : Type 1} → statement M
 carry-spec =

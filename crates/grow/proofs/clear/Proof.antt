@@ -18,7 +18,9 @@ is-clear-requires-4 c κs = search needs
 
 returns : tie.Need-returns
 unfolding allClear
-returns c = rw (c .before .before .before .is-clear .ensures, c .before .before .is-clear2 .ensures, c .before .is-clear3 .ensures, c .is-clear4 .ensures)
+returns c =
+    let one = c .before .before .before in
+    rw (one .is-clear .ensures, c .before .before .is-clear2 .ensures, c .before .is-clear3 .ensures, c .is-clear4 .ensures)
 
 pub clear-spec : {M : Type 1} → statement M
 clear-spec =

@@ -24,8 +24,10 @@ pick-requires-2 c κs = search needs
 
 returns-3 : tie.Need-returns-3
 returns-3 c m s =
-    here-split _ m s _ _ _ _ (c .before .before .before .before .before .before .if1 .left) (c .before .before .before .before .before .if2 .left) (c .before .before .before .before .if3 .taken) _ _ _ _
-    (c .before .before .before .mid-of .ensures .0) (c .before .before .side-of .ensures) (c .before .pick .ensures) (c .pick2 .ensures)
+    let split = c .before .before .before in
+    let whole = split .before in
+    here-split _ m s _ _ _ _ (whole .before .before .if1 .left) (whole .before .if2 .left) (whole .if3 .taken) _ _ _ _
+    (split .mid-of .ensures .0) (c .before .before .side-of .ensures) (c .before .pick .ensures) (c .pick2 .ensures)
 
 side-of-requires-2 : tie.Need-side-of-requires-2
 side-of-requires-2 c κs = search needs
@@ -38,7 +40,8 @@ pick-requires-4 c κs = search needs
 
 returns-4 : tie.Need-returns-4
 returns-4 c m s =
-    here-child _ m s _ _ _ _ (c .before .before .before .before .if2 .left) (c .before .before .before .if3 .left) _ _ _
+    let below = c .before .before .before in
+    here-child _ m s _ _ _ _ (below .before .if2 .left) (below .if3 .left) _ _ _
     (c .before .before .side-of2 .ensures) (c .before .pick3 .ensures) (c .pick4 .ensures)
 
 pub plan-here-spec : {M : Type 1} → statement M

@@ -1,6 +1,5 @@
 -- `grow::writes_of` meets its contract, case by case.
 use Rattle.tree.specs.Writes.{writesOf}
-use Rattle.grow.specs.Meaning.{Fitting}
 use Rattle.grow.proofs.Writing.{in-tree}
 use borrow.Author.Needs.{needs}
 use Rattle.grow.proofs.writes_of.Statement.{statement}
@@ -78,14 +77,16 @@ unfolding writesOf
 returns-2 c =
     let d = c .before .before .before .before .before in
     in-tree (d .args .p) (d .args .buckets) (d .args .code) (d .args .position) (d .pre .0) (d .pre .1) (c .grown .result)
-    (c .before .before .before .enum-told2 .given .1) (rw (c .grown .ensures, c .before .nothing2 .ensures, c .before .before .nothing .ensures))
+    (c .before .before .before .enum-told2 .given .1)
+    (rw (c .grown .ensures, c .before .nothing2 .ensures, c .before .before .nothing .ensures))
 
 returns-3 : tie.Need-returns-3
 unfolding writesOf
 returns-3 c =
     let d = c .before .before .before .before .before in
     in-tree (d .args .p) (d .args .buckets) (d .args .code) (d .args .position) (d .pre .0) (d .pre .1) (c .grown2 .result)
-    (c .before .before .before .enum-told3 .given .1) (rw (c .grown2 .ensures, c .before .nothing4 .ensures, c .before .before .nothing3 .ensures))
+    (c .before .before .before .enum-told3 .given .1)
+    (rw (c .grown2 .ensures, c .before .nothing4 .ensures, c .before .before .nothing3 .ensures))
 
 returns-4 : tie.Need-returns-4
 unfolding writesOf
@@ -99,14 +100,16 @@ unfolding writesOf
 returns-5 c =
     let d = c .before .before .before .before .before .before in
     in-tree (d .args .p) (d .args .buckets) (d .args .code) (d .args .position) (d .pre .0) (d .pre .1) (c .grown3 .result)
-    (c .before .before .before .before .p2 .given .1) (rw (c .grown3 .ensures, c .before .nothing5 .ensures, c .before .before .child-write .ensures))
+    (c .before .before .before .before .p2 .given .1)
+    (rw (c .grown3 .ensures, c .before .nothing5 .ensures, c .before .before .child-write .ensures))
 
 returns-6 : tie.Need-returns-6
 unfolding writesOf
 returns-6 c =
     let d = c .before .before .before .before .before .before in
     in-tree (d .args .p) (d .args .buckets) (d .args .code) (d .args .position) (d .pre .0) (d .pre .1) (c .grown4 .result)
-    (c .before .before .before .before .p3 .given .1) (rw (c .grown4 .ensures, c .before .child-write2 .ensures, c .before .before .mid-write .ensures))
+    (c .before .before .before .before .p3 .given .1)
+    (rw (c .grown4 .ensures, c .before .child-write2 .ensures, c .before .before .mid-write .ensures))
 
 pub writes-of-spec : {M : Type 1} → statement M
 writes-of-spec =

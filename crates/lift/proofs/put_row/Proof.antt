@@ -36,8 +36,10 @@ same-length c = search needs
 returns : tie.Need-returns
 unfolding recordIn
 returns c =
-    let at = (c .before .before .before .before .before .before .before .before .before .args .p) * 32 in
-    simp (lt-ltb _ _ (c .before .before .before .before .before .if1 .taken)) (c .before .before .copy .ensures ∙ ap (splice _ _) (part-from _ at (at + 32) 32 refl))
+    let copy = c .before .before in
+    let chosen = copy .before .before .before in
+    let at = chosen .before .before .before .before .args .p * 32 in
+    simp (lt-ltb _ _ (chosen .if1 .taken)) (copy .copy .ensures ∙ ap (splice _ _) (part-from _ at (at + 32) 32 refl))
 
 mul-b : tie.Need-mul-b
 mul-b c = search needs
@@ -63,8 +65,11 @@ same-length-2 c = search needs
 returns-2 : tie.Need-returns-2
 unfolding recordIn
 returns-2 c =
-    let at = (c .before .before .before .before .before .before .before .before .before .args .p - c .before .before .before .before .before .before .before .before .before .args .first) * 32 in
-    simp (le-ltb _ _ (c .before .before .before .before .before .if1 .left)) (c .before .before .copy2 .ensures ∙ ap (splice _ _) (part-from _ at (at + 32) 32 refl))
+    let copy = c .before .before in
+    let chosen = copy .before .before .before in
+    let a = chosen .before .before .before .before .args in
+    let at = (a .p - a .first) * 32 in
+    simp (le-ltb _ _ (chosen .if1 .left)) (copy .copy2 .ensures ∙ ap (splice _ _) (part-from _ at (at + 32) 32 refl))
 
 pub put-row-spec : {M : Type 1} → statement M
 put-row-spec =

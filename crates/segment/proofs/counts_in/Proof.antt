@@ -22,7 +22,8 @@ counts-good-requires c κs = search needs
 
 returns : tie.Need-returns
 returns c =
-    four-read countsGood _ _ _ _ _ _ _ _ _ (c .before .before .before .before .get-u16 .ensures) (c .before .before .before .get-u8 .ensures) (c .before .before .get-u82 .ensures)
+    four-read countsGood _ _ _ _ _ _ _ _ _ (c .before .before .before .before .get-u16 .ensures)
+    (c .before .before .before .get-u8 .ensures) (c .before .before .get-u82 .ensures)
     (c .before .get-u83 .ensures) (c .counts-good .ensures)
 
 pub counts-in-spec : {M : Type 1} → statement M

@@ -37,9 +37,12 @@ get-u32-requires-3 c κs = search needs
 returns : tie.Need-returns
 returns c =
     let p = c .before .before .before .before .before in
-    header-made _ _ _ _ _ _ _ _ _ _ _ _ _ (p .before .before .before .before .get-u32 .ensures) (p .before .before .before .pointers-at .ensures)
-    (p .before .before .counts-in .ensures) (p .before .span-in .ensures) (p .pointers-good .ensures) (c .before .before .before .before .get-u16 .ensures)
-    (c .before .before .before .get-u8 .ensures) (c .before .before .get-u64 .ensures) (c .before .get-u322 .ensures) (c .get-u323 .ensures)
+    header-made _ _ _ _ _ _ _ _ _ _ _ _ _ (p .before .before .before .before .get-u32 .ensures)
+    (p .before .before .before .pointers-at .ensures)
+    (p .before .before .counts-in .ensures) (p .before .span-in .ensures) (p .pointers-good .ensures)
+    (c .before .before .before .before .get-u16 .ensures)
+    (c .before .before .before .get-u8 .ensures) (c .before .before .get-u64 .ensures) (c .before .get-u322 .ensures)
+    (c .get-u323 .ensures)
 
 pub header-in-spec : {M : Type 1} → statement M
 header-in-spec =

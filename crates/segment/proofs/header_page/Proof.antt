@@ -38,7 +38,8 @@ returns c =
     let n = c .before .before .before .before .before .before .before .before .before in
     let four : length (n .before .node-of .result) ≡ 4 = search needs in
     page-put _ _ _ _ _ _ _ four (n .before .before .level-of .ensures .0) (n .before .node-of .ensures) (n .zeros .ensures)
-    (c .before .before .before .before .before .before .before .put-counts .ensures) (c .before .before .before .before .put-span .ensures) (c .before .put-pointers .ensures)
+    (c .before .before .before .before .before .before .before .put-counts .ensures)
+    (c .before .before .before .before .put-span .ensures) (c .before .put-pointers .ensures)
 
 pub header-page-spec : {M : Type 1} → statement M
 header-page-spec =

@@ -1,5 +1,5 @@
 -- `page_image`: by the kind of the page.
-use mathlib.Core.Path.{refl, sym, _∙_}
+use mathlib.Core.Path.{sym, _∙_}
 use Rattle.segment.proofs.Turns.{image-lifts, image-tree, image-bloom, image-header, tree-due}
 use native.Mathlib.Omega.{arith}
 use borrow.Author.Needs.{needs}
@@ -21,7 +21,8 @@ bloom-page-requires : tie.Need-bloom-page-requires
 bloom-page-requires c κs = search needs
 
 returns-3 : tie.Need-returns-3
-returns-3 c = c .bloom-page .ensures ∙ sym (image-bloom _ _ _ (c .before .before .before .if2 .left) (c .before .before .if3 .taken))
+returns-3 c =
+    c .bloom-page .ensures ∙ sym (image-bloom _ _ _ (c .before .before .before .if2 .left) (c .before .before .if3 .taken))
 
 header-page-requires : tie.Need-header-page-requires
 header-page-requires c κs = search needs

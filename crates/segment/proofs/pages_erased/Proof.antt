@@ -9,7 +9,8 @@ use Rattle.segment.proofs.pages_erased.Statement.{statement}
 use Rattle.segment.proofs.pages_erased.Tie as tie
 
 abbrev Inv-loop : tie.InvT-loop
-Inv-loop nand slot count buckets p₀ p = (p ≤ 32) × (pagesErased (32 - p) p nand slot count buckets ≡ pagesErased 32 0 nand slot count buckets)
+Inv-loop nand slot count buckets p₀ p =
+    (p ≤ 32) × (pagesErased (32 - p) p nand slot count buckets ≡ pagesErased 32 0 nand slot count buckets)
 
 abbrev μ-loop : tie.MeasureT-loop
 μ-loop nand slot count buckets p₀ p = 32 - p
@@ -21,7 +22,9 @@ is-ready-requires : tie.Need-is-ready-requires Inv-loop μ-loop
 is-ready-requires c κs = search needs
 
 returns : tie.Need-returns Inv-loop μ-loop
-returns c = erased-not _ _ _ _ 32 _ _ (c .before .before .loop-test .taken) (c .before .is-ready .ensures) (c .if1 .taken) ∙ c .before .before .before .loop .inv .1
+returns c =
+    erased-not _ _ _ _ 32 _ _ (c .before .before .loop-test .taken) (c .before .is-ready .ensures) (c .if1 .taken)
+    ∙ c .before .before .before .loop .inv .1
 
 add-p : tie.Need-add-p Inv-loop μ-loop
 add-p c = search needs
@@ -30,7 +33,11 @@ loop-less : tie.Need-loop-less Inv-loop μ-loop
 loop-less c = search needs
 
 loop-again : tie.Need-loop-again Inv-loop μ-loop
-loop-again c = (omega arith, erased-more _ _ _ _ 32 _ _ (c .before .before .loop-test .taken) (c .before .is-ready .ensures) (c .if1 .left) ∙ c .before .before .before .loop .inv .1)
+loop-again c = (
+  omega arith,
+  erased-more _ _ _ _ 32 _ _ (c .before .before .loop-test .taken) (c .before .is-ready .ensures) (c .if1 .left)
+      ∙ c .before .before .before .loop .inv .1,
+)
 
 returns-2 : tie.Need-returns-2 Inv-loop μ-loop
 returns-2 c = erased-all _ _ _ _ 32 _ (c .loop-test .left) ∙ c .before .loop .inv .1

@@ -33,7 +33,9 @@ pointer-good-requires-4 c κs = search needs
 returns : tie.Need-returns
 returns c =
     let four : length (c .before .before .before .before .before .before .before .before .args .t1) ≡ 4 = search needs in
-    four-pointers _ (c .before .before .before .before .before .before .before .before .args .t1) _ _ _ _ _ four (c .before .before .before .before .before .before .pointer-good .ensures) (c .before .before .before .before .pointer-good2 .ensures)
+    four-pointers _ (c .before .before .before .before .before .before .before .before .args .t1) _ _ _ _ _ four
+    (c .before .before .before .before .before .before .pointer-good .ensures)
+    (c .before .before .before .before .pointer-good2 .ensures)
     (c .before .before .pointer-good3 .ensures) (c .pointer-good4 .ensures)
 
 pub pointers-good-spec : {M : Type 1} → statement M

@@ -21,7 +21,9 @@ same-length c = search needs
 
 returns : tie.Need-returns
 returns c =
-    program-due _ _ _ _ _ _ (c .before .before .before .before .before .before .is-due .ensures) _ _ (c .before .before .before .before .before .if1 .taken) (c .before .before .before .before .page-image .ensures) (c .before .before .program .ensures)
+    program-due _ _ _ _ _ _ (c .before .before .before .before .before .before .is-due .ensures) _ _
+    (c .before .before .before .before .before .if1 .taken) (c .before .before .before .before .page-image .ensures)
+    (c .before .before .program .ensures)
 
 returns-2 : tie.Need-returns-2
 returns-2 c = program-not _ _ _ _ _ _ (c .before .is-due .ensures) (c .if1 .left)

@@ -10,7 +10,8 @@ use Rattle.segment.proofs.program_pages.Statement.{statement}
 use Rattle.segment.proofs.program_pages.Tie as tie
 
 abbrev Inv-loop : tie.InvT-loop
-Inv-loop nand₀ nor slot c p₀ nand p = (p ≤ 32) × (length nand ≡ length nand₀) × (pagesProgrammed (32 - p) p nand nor slot c ≡ pagesProgrammed 32 0 nand₀ nor slot c)
+Inv-loop nand₀ nor slot c p₀ nand p =
+    (p ≤ 32) × (length nand ≡ length nand₀) × (pagesProgrammed (32 - p) p nand nor slot c ≡ pagesProgrammed 32 0 nand₀ nor slot c)
 
 abbrev μ-loop : tie.MeasureT-loop
 μ-loop nand₀ nor slot c p₀ nand p = 32 - p
@@ -31,7 +32,8 @@ loop-again : tie.Need-loop-again Inv-loop μ-loop
 loop-again c = (
   omega arith,
   search needs,
-  programmed-more _ _ _ _ 32 _ _ (c .before .before .before .before .loop-test .taken) (c .before .before .program-page .ensures) ∙ c .before .before .before .before .before .loop .inv .2,
+  programmed-more _ _ _ _ 32 _ _ (c .before .before .before .before .loop-test .taken) (c .before .before .program-page .ensures)
+      ∙ c .before .before .before .before .before .loop .inv .2,
 )
 
 same-length : tie.Need-same-length Inv-loop μ-loop

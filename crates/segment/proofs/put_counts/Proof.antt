@@ -30,7 +30,9 @@ put-u8-requires-2 c κs = search needs
 
 cast-put-u8-2 : tie.Need-cast-put-u8-2
 cast-put-u8-2 c =
-    let f = c .before .before .before .before .before .before .before .before .before .before .before .before .before .before .before .before .before .before in
+    let e1 =
+    c .before .before .before .before .before .before .before .before .before .before .before .before .before .before .before in
+    let f = e1 .before .before .before in
     let p = f .before .before .before .pre in
     record { fits = fragment-fits _ _ _ (p .1) (p .2) (f .before .sections-of .ensures) (f .fragment-of .ensures) }
 

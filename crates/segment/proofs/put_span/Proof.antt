@@ -25,7 +25,8 @@ returns c =
     let e3 = e4 .before .before .before .before in
     let e2 = e3 .before .before .before .before in
     let e1 = e2 .before .before .before .before in
-    span-put _ _ _ _ _ _ _ _ _ (e1 .before .before .before .pre) (e1 .put-u64 .ensures) (e2 .put-u642 .ensures) (e3 .put-u32 .ensures)
+    span-put _ _ _ _ _ _ _ _ _ (e1 .before .before .before .pre) (e1 .put-u64 .ensures) (e2 .put-u642 .ensures)
+    (e3 .put-u32 .ensures)
     (e4 .put-u322 .ensures)
 
 pub put-span-spec : {M : Type 1} → statement M

@@ -17,7 +17,9 @@ code-ok-requires-2 : tie.Need-code-ok-requires-2
 code-ok-requires-2 c κs = search needs
 
 returns : tie.Need-returns
-returns c = span-tests _ _ _ _ _ _ _ _ (c .before .before .before .time-ok .ensures) (c .before .before .time-ok2 .ensures) (c .before .code-ok .ensures) (c .code-ok2 .ensures)
+returns c =
+    span-tests _ _ _ _ _ _ _ _ (c .before .before .before .time-ok .ensures) (c .before .before .time-ok2 .ensures)
+    (c .before .code-ok .ensures) (c .code-ok2 .ensures)
 
 pub span-good-spec : {M : Type 1} → statement M
 span-good-spec =

@@ -22,7 +22,8 @@ span-good-requires c κs = search needs
 
 returns : tie.Need-returns
 returns c =
-    four-read spanGood _ _ _ _ _ _ _ _ _ (c .before .before .before .before .get-u64 .ensures) (c .before .before .before .get-u642 .ensures) (c .before .before .get-u32 .ensures)
+    four-read spanGood _ _ _ _ _ _ _ _ _ (c .before .before .before .before .get-u64 .ensures)
+    (c .before .before .before .get-u642 .ensures) (c .before .before .get-u32 .ensures)
     (c .before .get-u322 .ensures) (c .span-good .ensures)
 
 pub span-in-spec : {M : Type 1} → statement M

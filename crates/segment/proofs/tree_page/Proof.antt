@@ -42,7 +42,8 @@ copy-requires c κs = search needs
 returns : tie.Need-returns
 returns c =
     let s = c .before .before .before .before .before .before .before in
-    tree-put (s .args .nor .now) _ _ _ _ _ _ (s .pre .0) (s .pre .1) (c .before .before .before .before .smaller .ensures) (c .before .before .before .before .before .ones .ensures)
+    tree-put (s .args .nor .now) _ _ _ _ _ _ (s .pre .0) (s .pre .1) (c .before .before .before .before .smaller .ensures)
+    (c .before .before .before .before .before .ones .ensures)
     (part-from _ _ _ _ refl) (c .before .copy .ensures)
 
 pub tree-page-spec : {M : Type 1} → statement M

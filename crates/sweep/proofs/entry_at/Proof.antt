@@ -17,7 +17,9 @@ in-range-requires c κs = search needs
 returns : tie.Need-returns
 returns c =
     let a = c .before .before .before .before .before .before .args in
-    entry-out (codesOf (a .lifts .now) (a .tail .now) (a .g)) (a .r) (entryIn (a .bucket .now) (a .i)) (a .s) _ (c .before .before .entry-code .ensures) (sym (c .before .in-range .ensures) ∙ not-true _ (c .if1 .taken))
+    entry-out (codesOf (a .lifts .now) (a .tail .now) (a .g)) (a .r) (entryIn (a .bucket .now) (a .i)) (a .s) _
+    (c .before .before .entry-code .ensures)
+    (sym (c .before .in-range .ensures) ∙ not-true _ (c .if1 .taken))
 
 entry-position-requires : tie.Need-entry-position-requires
 entry-position-requires c κs = search needs
@@ -33,10 +35,13 @@ insert-requires c κs = search needs
 
 returns-2 : tie.Need-returns-2
 returns-2 c =
-    let a = c .before .before .before .before .before .before .before .before .before .before .before .args in
-    entry-in (codesOf (a .lifts .now) (a .tail .now) (a .g)) (a .r) (entryIn (a .bucket .now) (a .i)) (a .s) _ (c .before .before .before .before .before .before .before .entry-code .ensures) _ _ _
-    (sym (c .before .before .before .before .before .before .in-range .ensures) ∙ not-false _ (c .before .before .before .before .before .if1 .left))
-    (c .before .before .before .before .entry-position .ensures)
+    let position = c .before .before .before .before in
+    let ranged = position .before .before in
+    let a = ranged .before .before .before .before .before .args in
+    entry-in (codesOf (a .lifts .now) (a .tail .now) (a .g)) (a .r) (entryIn (a .bucket .now) (a .i)) (a .s) _
+    (ranged .before .entry-code .ensures) _ _ _
+    (sym (ranged .in-range .ensures) ∙ not-false _ (position .before .if1 .left))
+    (position .entry-position .ensures)
     (c .before .before .before .code-in .ensures)
     (c .before .insert .ensures)
 

@@ -10,7 +10,8 @@ use Rattle.sweep.proofs.sweep_tree.Statement.{statement}
 use Rattle.sweep.proofs.sweep_tree.Tie as tie
 
 abbrev Inv-loop : tie.InvT-loop
-Inv-loop tree lifts tail g r t₀ buckets b₀ t b = (b ≤ buckets) × (onward tree (codesOf lifts tail g) g r (buckets - b) b t ≡ sweptOf tree lifts tail g r)
+Inv-loop tree lifts tail g r t₀ buckets b₀ t b =
+    (b ≤ buckets) × (onward tree (codesOf lifts tail g) g r (buckets - b) b t ≡ sweptOf tree lifts tail g r)
 
 abbrev μ-loop : tie.MeasureT-loop
 μ-loop tree lifts tail g r t₀ buckets b₀ t b = buckets - b
@@ -31,7 +32,10 @@ loop-less : tie.Need-loop-less Inv-loop μ-loop
 loop-less c = search needs
 
 loop-again : tie.Need-loop-again Inv-loop μ-loop
-loop-again c = (omega arith, turn-next _ _ _ _ _ _ _ _ (c .before .before .loop .inv .1) (c .before .loop-test .taken) _ (c .visit .ensures))
+loop-again c = (
+  omega arith,
+  turn-next _ _ _ _ _ _ _ _ (c .before .before .loop .inv .1) (c .before .loop-test .taken) _ (c .visit .ensures),
+)
 
 ended-requires : tie.Need-ended-requires Inv-loop μ-loop
 ended-requires c κs = search needs

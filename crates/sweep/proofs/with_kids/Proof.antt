@@ -13,7 +13,9 @@ with-child-requires-2 : tie.Need-with-child-requires-2
 with-child-requires-2 c κs = c .before .before .before .before .pre (c .before .before .before .if1 .left) .1
 
 returns-2 : tie.Need-returns-2
-returns-2 c = kids-split _ _ _ _ _ _ _ _ (c .before .before .before .before .if1 .left) (c .before .before .with-child .ensures) (c .with-child2 .ensures)
+returns-2 c =
+    let split = c .before .before .before .before .if1 .left in
+    kids-split _ _ _ _ _ _ _ _ split (c .before .before .with-child .ensures) (c .with-child2 .ensures)
 
 pub with-kids-spec : {M : Type 1} → statement M
 with-kids-spec = tie.close (tie.spec returns with-child-requires with-child-requires-2 returns-2)

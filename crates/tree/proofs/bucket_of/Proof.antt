@@ -23,8 +23,11 @@ part-result-end : tie.Need-part-result-end
 part-result-end c = search needs
 
 returns : tie.Need-returns
-returns c = let a = c .before .start-of .result in
-    part-from _ a (a + 128) 128 refl ∙ ap (λ (n : ℕ). part (c .before .before .before .args .tree .now) n 128) (c .before .start-of .ensures)
+returns c =
+    let start = c .before in
+    let a = start .start-of .result in
+    let tree = start .before .before .args .tree .now in
+    part-from tree a (a + 128) 128 refl ∙ ap (λ (n : ℕ). part tree n 128) (start .start-of .ensures)
 
 pub bucket-of-spec : {M : Type 1} → statement M
 bucket-of-spec =

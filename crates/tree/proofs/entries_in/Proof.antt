@@ -20,7 +20,10 @@ entry-position-requires : tie.Need-entry-position-requires Inv-loop μ-loop
 entry-position-requires c κs = search needs
 
 returns : tie.Need-returns Inv-loop μ-loop
-returns c = passed-end _ _ _ _ (c .before .before .before .loop .inv) (entries-end _ (13 - c .before .before .before .loop .i) _ (sym (c .before .entry-position .ensures) ∙ c .if1 .taken))
+returns c =
+    let p = c .before .entry-position .ensures in
+    let at = c .before .before .before .loop in
+    passed-end _ _ _ _ (at .inv) (entries-end _ (13 - at .i) _ (sym p ∙ c .if1 .taken))
 
 add-i : tie.Need-add-i Inv-loop μ-loop
 add-i c = search needs
@@ -30,8 +33,9 @@ loop-less c = search needs
 
 loop-again : tie.Need-loop-again Inv-loop μ-loop
 loop-again c =
-    rw (c .before .entry-position .ensures)
-    (passed-more _ _ _ _ (c .before .before .before .loop .inv) (c .before .before .loop-test .taken) (λ e. c .if1 .left (c .before .entry-position .ensures ∙ e)))
+    let p = c .before .entry-position .ensures in
+    let more = c .before .before .loop-test in
+    rw p (passed-more _ _ _ _ (c .before .before .before .loop .inv) (more .taken) (λ e. c .if1 .left (p ∙ e)))
 
 returns-2 : tie.Need-returns-2 Inv-loop μ-loop
 returns-2 c = let e : 13 - c .before .loop .i ≡ 0 = omega arith in passed-end _ _ _ _ (c .before .loop .inv) (no-places _ _ _ e)

@@ -1,16 +1,16 @@
 -- `tree::start_of` meets its contract: the bytes of whole pages before the bucket, and its offset.
 use mathlib.Core.Path.{_≡_, ap}
-use Prim.Native.Nat.{_+_, _*_, _/_, _%_}
 use native.Mathlib.Omega.{arith}
+use Rattle.tree.specs.Bytes.{bucketPage, bucketOffset}
 use Rattle.tree.specs.declared.Place.{Place}
 use borrow.Author.Needs.{needs}
 use Rattle.tree.proofs.start_of.Statement.{statement}
 use Rattle.tree.proofs.start_of.Tie as tie
 
-page : (c : tie.After-place-of) → c .place-of .result .page .0 ≡ 20 + c .before .args .b .0 / 4
+page : (c : tie.After-place-of) → c .place-of .result .page .0 ≡ bucketPage (c .before .args .b .0)
 page c = ap (λ (p : Place). p .page .0) (c .place-of .ensures)
 
-offset : (c : tie.After-place-of) → c .place-of .result .offset ≡ c .before .args .b .0 % 4 * 128
+offset : (c : tie.After-place-of) → c .place-of .result .offset ≡ bucketOffset (c .before .args .b .0)
 offset c = ap (λ (p : Place). p .offset) (c .place-of .ensures)
 
 place-of-requires : tie.Need-place-of-requires

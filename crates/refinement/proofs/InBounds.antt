@@ -1,0 +1,279 @@
+-- The state of a good history breaks no bound. Assumes nothing.
+use mathlib.Core.Path.{_≡_, refl, sym, ap, ap₂, _∙_}
+use mathlib.Core.Bool.{Bool, true, false, cond, not, _&&_, _||_}
+use mathlib.Core.List.{List, [], _∷_, _++_, map}
+use Prim.Native.Nat.{ℕ, zero, suc, _+_, _-_, _*_, _≤_, _<_}
+use native.Mathlib.Omega.{arith}
+use lib.Dec.{eqb, leb, ltb}
+use lib.IntN.{ℤ, pos, negsuc}
+use lib.ListN.{length, drop, replicate, length-append}
+use lib.Signed.{leZ, ltZ}
+use borrow.Author.Tests.{le-leb, lt-ltb, eq-eqb, ne-eqb, leb-true, ltb-true}
+use Rattle.bounds.specs.Bounds.{exactly, serialsOk, countsOk, timesOk, spanOk, loadsOk}
+use native.Mathlib.Nat.{le-refl}
+use Rattle.flash.specs.Chip.{slotOf}
+use Rattle.lift.specs.Limits.{loadOk}
+use Rattle.tree.proofs.Built.{buckets-of, counted}
+use Rattle.skiplist.specs.declared.Pointer.{Pointer}
+use Rattle.skiplist.specs.Skip.{pointer, none, isNone, inSlots, levelOf, headsAfter}
+use Rattle.store.specs.Bounds.{headsOk, withinBounds}
+use Rattle.paper_log.specs.Log.{Lift, Log, openSerial, codes}
+use Rattle.refinement.specs.Segments as S
+use Rattle.refinement.specs.Image.{History, openHeads, oldestHeads, firstStart, stateImage}
+use Rattle.refinement.proofs.Slots.{slot-below}
+use Rattle.refinement.proofs.Lengths.{good-loads}
+use Rattle.refinement.proofs.ClosePage.{few-buckets}
+use Rattle.refinement.proofs.Close.{no-buckets}
+use Rattle.refinement.proofs.Good as G
+use Rattle.refinement.proofs.Good.{GoodLifts, Built, Times, Segments, Starts, Good}
+
+pub both : (a b : Bool) → a ≡ true → b ≡ true → (a && b) ≡ true
+both true b p q = q
+both false b p q = p
+
+and-right : (a b : Bool) → (a && b) ≡ true → b ≡ true
+and-right true b e = e
+and-right false b e = cc
+
+pub or-right : (a b : Bool) → b ≡ true → (a || b) ≡ true
+or-right true b e = refl
+or-right false b e = e
+
+-- two tests that agree
+agree : (a b : Bool) → a ≡ b → exactly a b ≡ true
+agree true b e = rw (← e)
+agree false b e = rw (← e)
+
+-- ---- serials
+
+serials : (h : History) → Good h → serialsOk (h .log .oldest) (openSerial (h .log)) (length (h .log .current)) (h .log .slots) ≡ true
+unfolding serialsOk
+serials h g =
+    let first = g .serial in
+    let d : openSerial (h .log) - h .log .oldest ≡ length (h .log .closed) = omega arith in
+    both _ _
+    (both _ _ (le-leb 1 (h .log .oldest) (omega arith))
+    (both _ _ (le-leb (h .log .oldest) (openSerial (h .log)) (omega arith)) (le-leb (openSerial (h .log)) 999999999 (g .last))))
+    (rw d (both _ _ (le-leb _ _ (g .room)) (fewer (length (h .log .current)) (g .busy))))
+  where
+    fewer : (n : ℕ) → (0 < n → length (h .log .closed) < h .log .slots) → (eqb n 0 || ltb (length (h .log .closed)) (h .log .slots)) ≡ true
+    fewer zero f = refl
+    fewer (suc n) f = or-right (eqb (suc n) 0) (ltb (length (h .log .closed)) (h .log .slots)) (lt-ltb (length (h .log .closed)) (h .log .slots) (f (omega arith)))
+
+-- ---- counts
+
+bucket-none : (ls : List Lift) → Built ls → eqb (S.bucketCount ls) 0 ≡ eqb (length ls) 0
+bucket-none [] b = rw no-buckets
+bucket-none (l ∷ ls) b =
+    let t = buckets-of (codes (l ∷ ls)) (b .tree) (b .is) in
+    let k = counted (codes (l ∷ ls)) (good-loads (l ∷ ls) (b .lifts)) (b .tree) (b .is) .some-bucket (omega arith) in
+    ne-eqb (S.bucketCount (l ∷ ls)) 0 (λ z. omega (arith, ap length t)) ∙ sym (ne-eqb (length (l ∷ ls)) 0 (λ z. omega arith))
+
+counts : (h : History) → Good h → countsOk (openSerial (h .log)) (length (h .log .current)) (S.bucketCount (h .log .current)) ≡ true
+unfolding countsOk
+counts h g =
+    both _ _ (both _ _ (le-leb _ _ (g .segment .few)) (le-leb _ _ (few-buckets (h .log .current) (g .segment))))
+    (both _ _ (agree _ _ (bucket-none (h .log .current) (g .segment))) (end (length (h .log .current)) (g .still)))
+  where
+    end : (n : ℕ) → (0 < n → openSerial (h .log) ≤ 999999998) → (not (eqb (openSerial (h .log)) 999999999) || eqb n 0) ≡ true
+    end zero f = or-right (not (eqb (openSerial (h .log)) 999999999)) true refl
+    end (suc n) f = rw (ne-eqb (openSerial (h .log)) 999999999 (λ e. omega (arith, f (omega arith))))
+
+-- ---- times
+
+-- next time after some lifts
+pub times-up : {n m : ℕ} {ls : List Lift} → Times n ls m → n ≤ m
+times-up G.none = le-refl _
+times-up (G.more h t) = omega (arith, times-up t)
+
+pub start-below : (ls : List Lift) {n m : ℕ} → Times n ls m → 0 < length ls → (n ≤ S.startTime ls) × (S.startTime ls < m)
+start-below [] t h = absurd (omega arith)
+start-below (l ∷ ls) (G.more k t) h = (k, omega (arith, times-up t))
+
+pub segments-up : {n m : ℕ} {closed : List (List Lift)} → Segments n closed m → n ≤ m
+segments-up G.none = le-refl _
+segments-up (G.more t r) = omega (arith, times-up t, segments-up r)
+
+pub starts-up : {n m : ℕ} {ts : List ℕ} → Starts n ts m → n ≤ m
+starts-up G.none = le-refl _
+starts-up (G.more a b r) = omega (arith, starts-up r)
+
+live-most : (h : History) → Good h → firstStart (h .log .closed) (h .log .current) (h .log .next) ≤ h .log .next
+live-most h g = go (h .log .closed) (h .log .current) (g .closed) (g .current)
+  where
+    go : (closed : List (List Lift)) (ls : List Lift) {n m k : ℕ} → Segments n closed m → Times m ls k → firstStart closed ls k ≤ k
+    go [] [] s t = le-refl _
+    go [] (l ∷ ls) s (G.more a t) = omega (arith, times-up t)
+    go (ms ∷ rest) ls (G.more (G.more a u) r) t = omega (arith, times-up u, segments-up r, times-up t)
+
+-- next time is 0 exactly where no lift came
+fresh-from : (gone : List ℕ) (closed : List (List Lift)) (ls : List Lift) (oldest : ℕ) {a b m : ℕ} → Starts 0 gone a → Segments a closed b
+    → Times b ls m → oldest ≡ length gone + 1 → eqb m 0 ≡ (eqb (oldest + length closed) 1 && eqb (length ls) 0)
+fresh-from [] [] [] oldest G.none G.none G.none e = let d : oldest + 0 ≡ 1 = omega arith in sym (rw (eq-eqb (oldest + 0) 1 d))
+fresh-from (t ∷ ts) [] [] oldest {m = m} (G.more p q r) G.none G.none e =
+    ne-eqb m 0 (λ z. omega (arith, starts-up r)) ∙ sym (rw (ne-eqb (oldest + 0) 1 (λ z. omega arith)))
+fresh-from gone (ms ∷ rest) [] oldest {m = m} s (G.more (G.more p t) r) G.none e =
+    ne-eqb m 0 (λ z. omega (arith, times-up t, segments-up r))
+    ∙ sym (rw (ne-eqb (oldest + suc (length rest)) 1 (λ z. omega arith)))
+fresh-from gone closed (l ∷ ls) oldest {m = m} s c (G.more p t) e =
+    ne-eqb m 0 (λ z. omega (arith, times-up t)) ∙ sym (no-right (eqb (oldest + length closed) 1) (eqb (suc (length ls)) 0) (ne-eqb (suc (length ls)) 0 (λ z. omega arith)))
+  where
+    no-right : (a b : Bool) → b ≡ false → (a && b) ≡ false
+    no-right true b e = e
+    no-right false b e = refl
+
+fresh : (h : History) → Good h → eqb (h .log .next) 0 ≡ (eqb (openSerial (h .log)) 1 && eqb (length (h .log .current)) 0)
+fresh h g = fresh-from (h .gone) (h .log .closed) (h .log .current) (h .log .oldest) (g .went) (g .closed) (g .current) (g .serial)
+
+start-most : (h : History) → Good h → S.startTime (h .log .current) ≤ h .log .next
+start-most h g = go (h .log .current) (g .current)
+  where
+    go : (ls : List Lift) {n m : ℕ} → Times n ls m → S.startTime ls ≤ m
+    go [] t = omega arith
+    go (l ∷ ls) (G.more a t) = omega (arith, times-up t)
+
+times : (h : History) → Good h
+    → timesOk (openSerial (h .log)) (length (h .log .current)) (h .log .next) (firstStart (h .log .closed) (h .log .current) (h .log .next))
+    (S.startTime (h .log .current)) ≡ true
+unfolding timesOk
+times h g =
+    let e = g .end in
+    let v : firstStart (h .log .closed) (h .log .current) (h .log .next) ≤ 1000000000000000 = omega (arith, live-most h g) in
+    let s : S.startTime (h .log .current) ≤ 1000000000000000 = omega (arith, start-most h g) in
+    both _ _ (both _ _ (le-leb _ _ e) (both _ _ (le-leb _ _ v) (le-leb _ _ s)))
+    (both _ _ (agree _ _ (fresh h g)) (below (h .log .current) (g .current)))
+  where
+    below : (ls : List Lift) {n m : ℕ} → Times n ls m → (eqb (length ls) 0 || ltb (S.startTime ls) m) ≡ true
+    below [] t = refl
+    below (l ∷ ls) {m = m} t = or-right (eqb (length (l ∷ ls)) 0) (ltb (l .time) m) (lt-ltb (l .time) m (start-below (l ∷ ls) t (omega arith) .1))
+
+-- ---- loads
+
+either : (t : Bool) (a b : ℤ) → loadOk a ≡ true → loadOk b ≡ true → loadOk (cond t a b) ≡ true
+either true a b p q = p
+either false a b p q = q
+
+-- the low and the high load are loads of the segment
+pub low-ok : (m : ℤ) (ls : List Lift) → loadOk m ≡ true → GoodLifts ls → loadOk (S.lowFrom m (S.loadsOf ls)) ≡ true
+unfolding S.lowFrom
+low-ok m [] e g = e
+low-ok m (l ∷ ls) e g = low-ok (cond (ltZ (l .load) m) (l .load) m) ls (either (ltZ (l .load) m) (l .load) m (g .0 .load) e) (g .1)
+
+pub high-ok : (m : ℤ) (ls : List Lift) → loadOk m ≡ true → GoodLifts ls → loadOk (S.highFrom m (S.loadsOf ls)) ≡ true
+unfolding S.highFrom
+high-ok m [] e g = e
+high-ok m (l ∷ ls) e g = high-ok (cond (ltZ m (l .load)) (l .load) m) ls (either (ltZ m (l .load)) (l .load) m (g .0 .load) e) (g .1)
+
+-- the order of integers
+lt-le : (a b c : ℤ) → ltZ a b ≡ true → leZ b c ≡ true → leZ a c ≡ true
+lt-le (pos a) (pos b) (pos c) p q = le-leb a c (omega (arith, ltb-true a b p, leb-true b c q))
+lt-le (pos a) (pos b) (negsuc c) p q = cc
+lt-le (pos a) (negsuc b) c p q = cc
+lt-le (negsuc a) (pos b) (pos c) p q = refl
+lt-le (negsuc a) (pos b) (negsuc c) p q = cc
+lt-le (negsuc a) (negsuc b) (pos c) p q = refl
+lt-le (negsuc a) (negsuc b) (negsuc c) p q = le-leb c a (omega (arith, ltb-true b a p, leb-true c b q))
+
+le-lt : (a b c : ℤ) → leZ a b ≡ true → ltZ b c ≡ true → leZ a c ≡ true
+le-lt (pos a) (pos b) (pos c) p q = le-leb a c (omega (arith, leb-true a b p, ltb-true b c q))
+le-lt (pos a) (pos b) (negsuc c) p q = cc
+le-lt (pos a) (negsuc b) c p q = cc
+le-lt (negsuc a) (pos b) (pos c) p q = refl
+le-lt (negsuc a) (pos b) (negsuc c) p q = cc
+le-lt (negsuc a) (negsuc b) (pos c) p q = refl
+le-lt (negsuc a) (negsuc b) (negsuc c) p q = le-leb c a (omega (arith, leb-true b a p, ltb-true c b q))
+
+pub le-self : (a : ℤ) → leZ a a ≡ true
+le-self (pos a) = le-leb a a (le-refl a)
+le-self (negsuc a) = le-leb a a (le-refl a)
+
+-- low is not above a number that is not below the first load, and high not below one that is not above it
+pub low-most : (m k : ℤ) (ls : List ℤ) → leZ m k ≡ true → leZ (S.lowFrom m ls) k ≡ true
+unfolding S.lowFrom
+low-most m k [] e = e
+low-most m k (l ∷ ls) e = low-most (cond (ltZ l m) l m) k ls (go (ltZ l m) refl)
+  where
+    go : (t : Bool) → ltZ l m ≡ t → leZ (cond t l m) k ≡ true
+    go true f = lt-le l m k f e
+    go false f = e
+
+pub high-least : (m k : ℤ) (ls : List ℤ) → leZ k m ≡ true → leZ k (S.highFrom m ls) ≡ true
+unfolding S.highFrom
+high-least m k [] e = e
+high-least m k (l ∷ ls) e = high-least (cond (ltZ m l) l m) k ls (go (ltZ m l) refl)
+  where
+    go : (t : Bool) → ltZ m l ≡ t → leZ k (cond t l m) ≡ true
+    go true f = le-lt k m l e f
+    go false f = e
+
+span : (ls : List Lift) → GoodLifts ls → spanOk (length ls) (S.lowOf (S.loadsOf ls)) (S.highOf (S.loadsOf ls)) ≡ true
+unfolding spanOk
+span [] g = refl
+span (l ∷ ls) g =
+    let low : ℤ = S.lowFrom (l .load) (S.loadsOf ls) in
+    let high : ℤ = S.highFrom (l .load) (S.loadsOf ls) in
+    both _ _ (both _ _ (low-ok (l .load) ls (g .0 .load) (g .1)) (high-ok (l .load) ls (g .0 .load) (g .1)))
+    (or-right (eqb (suc (length ls)) 0) (leZ low high)
+    (low-most (l .load) high (S.loadsOf ls) (high-least (l .load) (l .load) (S.loadsOf ls) (le-self (l .load)))))
+
+all-ok : (ls : List Lift) → GoodLifts ls → loadsOk (S.loadsOf ls) ≡ true
+unfolding loadsOk
+all-ok [] g = refl
+all-ok (l ∷ ls) g = both _ _ (g .0 .load) (all-ok ls (g .1))
+
+ok-drop : (n : ℕ) (ls : List ℤ) → loadsOk ls ≡ true → loadsOk (drop n ls) ≡ true
+unfolding loadsOk
+ok-drop zero ls e = e
+ok-drop (suc n) [] e = refl
+ok-drop (suc n) (l ∷ ls) e = ok-drop n ls (and-right (loadOk l) (loadsOk ls) e)
+
+ok-append : (a b : List ℤ) → loadsOk a ≡ true → loadsOk b ≡ true → loadsOk (a ++ b) ≡ true
+unfolding loadsOk
+ok-append [] b p q = q
+ok-append (l ∷ a) b p q = go (loadOk l) p (ok-append a b)
+  where
+    go : (t : Bool) → (t && loadsOk a) ≡ true → (loadsOk a ≡ true → loadsOk b ≡ true → loadsOk (a ++ b) ≡ true) → (t && loadsOk (a ++ b)) ≡ true
+    go true p f = f p q
+    go false p f = p
+
+ok-zeros : (n : ℕ) → loadsOk (replicate n (pos 0)) ≡ true
+unfolding loadsOk
+ok-zeros zero = refl
+ok-zeros (suc n) = ok-zeros n
+
+loads : (ls : List Lift) → GoodLifts ls → loadsOk (S.lastThirteen (S.loadsOf ls)) ≡ true
+unfolding S.lastThirteen
+loads ls g = ok-append _ _ (ok-drop (length (S.loadsOf ls) - 13) (S.loadsOf ls) (all-ok ls g)) (ok-zeros (13 - length (S.loadsOf ls)))
+
+-- ---- heads
+
+ok-replicate : (slots level : ℕ) (p : Pointer) (rest : List Pointer) → inSlots p slots ≡ true → headsOk rest slots ≡ true
+    → headsOk (replicate level p ++ rest) slots ≡ true
+unfolding headsOk
+ok-replicate slots zero p rest e f = f
+ok-replicate slots (suc n) p rest e f = both _ _ e (ok-replicate slots n p rest e f)
+
+ok-later : (slots n : ℕ) (ps : List Pointer) → headsOk ps slots ≡ true → headsOk (drop n ps) slots ≡ true
+unfolding headsOk
+ok-later slots zero ps e = e
+ok-later slots (suc n) [] e = refl
+ok-later slots (suc n) (p ∷ ps) e = ok-later slots n ps (and-right (inSlots p slots) (headsOk ps slots) e)
+
+heads-ok : (slots n : ℕ) (ts : List ℕ) (heads : List Pointer) → 1 ≤ slots → headsOk heads slots ≡ true → headsOk (S.headsFrom slots n ts heads) slots ≡ true
+unfolding S.headsFrom headsAfter
+heads-ok slots n [] heads h e = e
+heads-ok slots n (t ∷ ts) heads h e =
+    heads-ok slots (suc n) ts _ h
+    (ok-replicate slots (levelOf n) (pointer (slotOf n slots) t) (drop (levelOf n) heads)
+    (or-right (isNone (pointer (slotOf n slots) t)) (ltb (slotOf n slots) slots) (lt-ltb (slotOf n slots) slots (slot-below slots n h)))
+    (ok-later slots (levelOf n) heads e))
+
+-- ---- all of them
+
+pub in-bounds : (h : History) → Good h → withinBounds (stateImage h) (h .log .slots) ≡ true
+unfolding withinBounds stateImage headsOk
+in-bounds h g =
+    let s : 1 ≤ h .log .slots = omega (arith, g .least) in
+    both _ _ (serials h g) (both _ _ (counts h g) (both _ _ (times h g) (both _ _ (span (h .log .current) (g .segment .lifts))
+    (both _ _ (loads (h .log .current) (g .segment .lifts))
+    (heads-ok (h .log .slots) (h .log .oldest) (map S.startTime (h .log .closed)) (oldestHeads h) s (heads-ok (h .log .slots) 1 (h .gone) S.noHeads s refl))))))

@@ -1,0 +1,198 @@
+-- A retained closed segment, wherever it stands among the others: its pages are in its serial's slot, and its header reads back without damage.
+-- Assumes nothing.
+use mathlib.Core.Path.{_≡_, refl, sym, ap, ap₂, subst, _∙_}
+use mathlib.Core.Bool.{Bool, true, false, cond, _&&_}
+use mathlib.Core.List.{List, [], _∷_, _++_, map}
+use Prim.Native.Nat.{ℕ, zero, suc, _+_, _-_, _*_, _/_, _%_, _^_, _≤_, _<_}
+use native.Mathlib.Omega.{arith}
+use lib.Dec.{eqb, leb, ltb}
+use lib.IntN.{ℤ}
+use lib.ListN.{length, drop, replicate, length-append}
+use lib.Signed.{leZ}
+use borrow.Author.Tests.{le-leb, lt-ltb, eq-eqb, ne-eqb, leb-true}
+use Rattle.flash.specs.Chip.{slotOf, pageOf}
+use Rattle.lift.specs.Limits.{timeOk, loadOk, stored}
+use Rattle.lift.proofs.Codes.{within-limits, stored-le}
+use Rattle.skiplist.specs.declared.Pointer.{Pointer}
+use Rattle.skiplist.specs.Skip.{pointer, isNone, inSlots, levelOf, headsAfter}
+use Rattle.segment.specs.declared.Header.{Header}
+use Rattle.segment.specs.Header.{pointerGood, pointersGood, headerIn, headerPage}
+use Rattle.segment.proofs.HeaderRead.{headerOf}
+use Rattle.segment.proofs.HeaderSound.{Sound, header-decoded}
+use Rattle.tree.proofs.Built.{buckets-of, counted}
+use Rattle.paper_log.specs.Log.{Lift, Log, openSerial, codes}
+use Rattle.refinement.specs.Segments as S
+use Rattle.refinement.specs.Image.{History, oldestHeads, pageFrom, pageImage, nandImage}
+use Rattle.refinement.proofs.Good as G
+use Rattle.refinement.proofs.Good.{GoodLifts, Built, AllBuilt, Times, Segments, Starts, Good}
+use Rattle.refinement.proofs.Lengths.{length-codes, good-loads}
+use Rattle.refinement.proofs.Slots.{slots-differ, slot-below}
+use Rattle.refinement.proofs.PageLengths.{four-heads, four-oldest, page-of-nand}
+use Rattle.refinement.proofs.ClosePage.{few-buckets}
+use Rattle.refinement.proofs.PageFrom.{headsAt}
+use Rattle.refinement.proofs.Close.{end-time}
+use Rattle.refinement.proofs.InBounds.{both, or-right, times-up, start-below, segments-up, starts-up, low-ok, high-ok, low-most, high-least, le-self}
+
+-- ---- its pages
+
+pub page-retained : (slots n : ℕ) (before : List (List Lift)) (ls : List Lift) (after : List (List Lift)) (current : List Lift) (heads : List Pointer) (p : ℕ)
+    → 1 ≤ n → length before < slots
+    → pageFrom slots n (before ++ (ls ∷ after)) current heads (slotOf (n + length before) slots) p
+    ≡ S.closedPage (n + length before) ls (headsAt slots n before heads) p
+unfolding pageFrom S.headsFrom
+page-retained slots n [] ls after current heads p h k =
+    let e : n + 0 ≡ n = omega arith in
+    rw (e, eq-eqb (slotOf n slots) (slotOf n slots) refl)
+page-retained slots n (ms ∷ rest) ls after current heads p h k =
+    let e : n + suc (length rest) ≡ suc n + length rest = omega arith in
+    rw (e, ne-eqb (slotOf n slots) (slotOf (suc n + length rest) slots) (slots-differ slots n (suc n + length rest) h (omega arith) (omega arith)))
+    (page-retained slots (suc n) rest ls after current _ p (omega arith) (omega arith))
+
+-- ---- its heads
+
+-- start times within their limit
+abbrev pub Limited : List ℕ → Type 0
+Limited [] = Unit {0}
+Limited (t ∷ ts) = (t ≤ 999999999999999) × Limited ts
+
+pub limited-gone : {n m : ℕ} {ts : List ℕ} → Starts n ts m → m ≤ 1000000000000000 → Limited ts
+limited-gone G.none h = tt
+limited-gone (G.more a b r) h = (omega (arith, starts-up r), limited-gone r h)
+
+pub limited-closed : {n m : ℕ} {closed : List (List Lift)} → Segments n closed m → m ≤ 1000000000000000 → Limited (map S.startTime closed)
+limited-closed G.none h = tt
+limited-closed (G.more (G.more a t) r) h = (omega (arith, times-up t, segments-up r), limited-closed r h)
+
+good-run : (slots level : ℕ) (p : Pointer) (rest : List Pointer) → pointerGood slots p ≡ true → pointersGood slots rest ≡ true
+    → pointersGood slots (replicate level p ++ rest) ≡ true
+unfolding pointersGood
+good-run slots zero p rest e f = f
+good-run slots (suc n) p rest e f = both _ _ e (good-run slots n p rest e f)
+
+good-later : (slots n : ℕ) (ps : List Pointer) → pointersGood slots ps ≡ true → pointersGood slots (drop n ps) ≡ true
+unfolding pointersGood
+good-later slots zero ps e = e
+good-later slots (suc n) [] e = refl
+good-later slots (suc n) (p ∷ ps) e = good-later slots n ps (go (pointerGood slots p) e)
+  where
+    go : (t : Bool) → (t && pointersGood slots ps) ≡ true → pointersGood slots ps ≡ true
+    go true e = e
+    go false e = cc
+
+pub good-heads : (slots n : ℕ) (ts : List ℕ) (heads : List Pointer) → 1 ≤ slots → Limited ts → pointersGood slots heads ≡ true
+    → pointersGood slots (S.headsFrom slots n ts heads) ≡ true
+unfolding S.headsFrom headsAfter pointerGood
+good-heads slots n [] heads h l e = e
+good-heads slots n (t ∷ ts) heads h l e =
+    good-heads slots (suc n) ts _ h (l .1)
+    (good-run slots (levelOf n) (pointer (slotOf n slots) t) (drop (levelOf n) heads)
+    (both _ _ (le-leb t 999999999999999 (l .0))
+    (or-right (isNone (pointer (slotOf n slots) t)) (ltb (slotOf n slots) slots) (lt-ltb (slotOf n slots) slots (slot-below slots n h))))
+    (good-later slots (levelOf n) heads e))
+
+pub good-none : (slots : ℕ) → pointersGood slots S.noHeads ≡ true
+unfolding pointersGood pointerGood
+good-none slots = refl
+
+-- ---- a closed segment among the others
+
+-- what holds of it: next time before and after it, and of those around it
+pub record Among (n : ℕ) (before : List (List Lift)) (ls : List Lift) (after : List (List Lift)) (m : ℕ) : Type 0 where
+  pub from : ℕ
+  pub to : ℕ
+  pub earlier : Segments n before from
+  pub own : Times from ls to
+  pub later : Segments to after m
+  pub some-lift : 0 < length ls
+
+pub among : {n m : ℕ} (before : List (List Lift)) (ls : List Lift) (after : List (List Lift)) → Segments n (before ++ (ls ∷ after)) m
+    → Among n before ls after m
+among [] (l ∷ ls) after (G.more t r) = record { from = _; to = _; earlier = G.none; own = t; later = r; some-lift = omega arith }
+among ((k ∷ ks) ∷ before) ls after (G.more t r) =
+    let a = among before ls after r in
+    record { from = a .from; to = a .to; earlier = G.more t (a .earlier); own = a .own; later = a .later; some-lift = a .some-lift }
+
+pub built-among : (before : List (List Lift)) (ls : List Lift) (after : List (List Lift)) → AllBuilt (before ++ (ls ∷ after)) → Built ls
+built-among [] ls after b = b .0
+built-among (ms ∷ before) ls after b = built-among before ls after (b .1)
+
+-- the first lift is not after the last one
+start-end : (ls : List Lift) {n m : ℕ} → Times n ls m → 0 < length ls → S.startTime ls ≤ S.endTime ls
+start-end ls t h = omega (arith, start-below ls t h .1, end-time ls t h)
+
+module _ (h : History) (g : Good h) (before : List (List Lift)) (ls : List Lift) (after : List (List Lift))
+    (is : h .log .closed ≡ before ++ (ls ∷ after)) where
+  pub facts : Among (g .before) before ls after (g .begun)
+  facts = among before ls after (subst (λ (c : List (List Lift)). Segments (g .before) c (g .begun)) is (g .closed))
+
+  pub built : Built ls
+  built = built-among before ls after (subst AllBuilt is (g .segments))
+
+  count-closed : length (h .log .closed) ≡ length before + suc (length after)
+  count-closed = ap length is ∙ length-append before (ls ∷ after)
+
+  abbrev serialOf : ℕ
+  serialOf = h .log .oldest + length before
+
+  abbrev headsOf : List Pointer
+  headsOf = headsAt (h .log .slots) (h .log .oldest) before (oldestHeads h)
+
+  four-of : length headsOf ≡ 4
+  four-of = four-heads (h .log .slots) (h .log .oldest) (map S.startTime before) (oldestHeads h) (four-oldest h g)
+
+  slots-some : 1 ≤ h .log .slots
+  slots-some = omega (arith, g .least)
+
+  -- its pages
+  pub retained-page : (p : ℕ) → p < 32 → pageOf (nandImage h) (slotOf serialOf (h .log .slots)) p ≡ S.closedPage serialOf ls headsOf p
+  retained-page p l =
+      page-of-nand h g (slotOf serialOf (h .log .slots)) p (slot-below (h .log .slots) serialOf slots-some) l
+      ∙ ap (λ (c : List (List Lift)). pageFrom (h .log .slots) (h .log .oldest) c (h .log .current) (oldestHeads h) (slotOf serialOf (h .log .slots)) p) is
+      ∙ page-retained (h .log .slots) (h .log .oldest) before ls after (h .log .current) (oldestHeads h) p (omega (arith, g .serial))
+      (omega (arith, g .room, count-closed))
+
+  limits : (l : List Lift) → GoodLifts l → 0 < length l
+      → (1 ≤ stored (S.lowOf (S.loadsOf l))) × (stored (S.lowOf (S.loadsOf l)) ≤ stored (S.highOf (S.loadsOf l))) × (stored (S.highOf (S.loadsOf l)) ≤ 150001)
+  limits [] gl q = absurd (omega arith)
+  limits (l ∷ ls) gl q =
+      let low : ℤ = S.lowFrom (l .load) (S.loadsOf ls) in
+      let high : ℤ = S.highFrom (l .load) (S.loadsOf ls) in
+      let a = low-ok (l .load) ls (gl .0 .load) (gl .1) in
+      let b = high-ok (l .load) ls (gl .0 .load) (gl .1) in
+      (within-limits low a .low, leb-true _ _ (sym (stored-le low high a b) ∙ low-most (l .load) high (S.loadsOf ls) (high-least (l .load) (l .load) (S.loadsOf ls) (le-self (l .load)))), within-limits high b .high)
+
+  -- its header
+  pub sound : (bound : ℕ) → serialOf < bound → Sound (S.closingOf serialOf ls headsOf) (h .log .slots) bound
+  unfolding S.closingOf
+  sound bound q =
+      let f = facts in
+      let k = limits ls (built .lifts) (f .some-lift) in
+      let c = counted (codes ls) (good-loads ls (built .lifts)) (built .tree) (built .is) in
+      let t = ap length (buckets-of (codes ls) (built .tree) (built .is)) in
+      let e = end-time ls (f .own) (f .some-lift) in
+      record {
+        slots-most = g .most;
+        serial-below = q;
+        serial-fits = omega (arith, g .last, count-closed);
+        some = f .some-lift;
+        most = built .few;
+        buckets-some = omega (arith, c .some-bucket (omega (arith, length-codes ls, f .some-lift)));
+        buckets-most = few-buckets ls built;
+        start-end = start-end ls (f .own) (f .some-lift);
+        end-limit = omega (arith, segments-up (f .later), times-up (g .current), g .end);
+        low-limit = k .0;
+        low-high = k .1;
+        high-limit = k .2;
+        heads-four = four-of;
+        heads-good = good-heads (h .log .slots) (h .log .oldest) (map S.startTime before) (oldestHeads h) slots-some
+            (limited-closed (f .earlier) (omega (arith, times-up (f .own), segments-up (f .later), times-up (g .current), g .end)))
+            (good-heads (h .log .slots) 1 (h .gone) S.noHeads slots-some
+            (limited-gone (g .went) (omega (arith, segments-up (g .closed), times-up (g .current), g .end))) (good-none (h .log .slots)));
+      }
+
+  pub retained-header : (bound : ℕ) → serialOf < bound
+      → headerIn (pageOf (nandImage h) (slotOf serialOf (h .log .slots)) 31) (h .log .slots) bound ≡ headerOf (S.closingOf serialOf ls headsOf) true
+  unfolding S.closedPage
+  retained-header bound q =
+      ap (λ (page : List ℕ). headerIn page (h .log .slots) bound) (retained-page 31 (omega arith))
+      ∙ header-decoded (S.closingOf serialOf ls headsOf) (h .log .slots) bound (sound bound q)

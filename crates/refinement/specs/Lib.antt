@@ -1,0 +1,5 @@
+pub mod Segments
+pub mod Image
+pub mod Run
+pub mod Rules
+pub mod ReadBack

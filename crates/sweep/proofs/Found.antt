@@ -1,0 +1,114 @@
+-- What a sweep hands back, as places: for any bytes every position found is a lift's, so the set holds exactly what the rules'
+-- sweep finds; for a built tree these are the positions whose loads are in the range. Assumes nothing.
+use Prim.Native.Nat.{ℕ, zero, suc, _≤_, _<_}
+use mathlib.Core.Path.{_≡_, refl, _∙_}
+use mathlib.Core.Bool.{Bool, true, false, cond, _&&_}
+use mathlib.Core.Option.{Option, none, some}
+use mathlib.Core.List.{List, [], _∷_, _++_}
+use native.Mathlib.Omega.{arith}
+use lib.Dec.{ltb, eqb}
+use lib.ListN.{length, getD}
+use borrow.Author.Tests.{ltb-true}
+use Rattle.bitset.specs.Set.{members, picked, elem}
+use Rattle.bitset.proofs.Set.{Below, members-inserted-all}
+use Rattle.bitset.proofs.Picked.{picked-same}
+use Rattle.tree.specs.Rules.{Entry, Bucket, treeOf, Loads}
+use Rattle.tree.specs.Bytes.{treeBytes}
+use Rattle.tree.specs.Reading.{kidsOf, nodeGood, positionsGood}
+use Rattle.tree.specs.Search.{within, hits, find, reached}
+use Rattle.tree.specs.Sweep.{recordsGood, andThen, nodeAt, visitGood, sweepFrom, sweepOn}
+use Rattle.tree.proofs.Descent.{if, none-some}
+use Rattle.tree.proofs.Clears.{both}
+use Rattle.tree.proofs.Looked.{sound}
+use Rattle.tree.proofs.Found.{find-elem}
+use Rattle.tree.proofs.Swept.{sweep-built}
+use Rattle.sweep.specs.declared.Range.{Range}
+use Rattle.sweep.specs.declared.Records.{Records}
+use Rattle.sweep.specs.declared.Sweep.{Sweep}
+use Rattle.sweep.specs.Swept.{sweptOf}
+use Rattle.sweep.specs.Turns.{codesOf}
+
+-- ---- positions below a bound
+
+below-append : (n : ℕ) (ps qs : List ℕ) → Below n ps → Below n qs → Below n (ps ++ qs)
+below-append n [] qs h k = k
+below-append n (p ∷ ps) qs h k = (h .0, below-append n ps qs (h .1) k)
+
+below-more : (m n : ℕ) (ps : List ℕ) → m ≤ n → Below m ps → Below n ps
+below-more m n [] l h = tt
+below-more m n (p ∷ ps) l h = (omega (arith, h .0), below-more m n ps l (h .1))
+
+hits-below : (k1 k2 count : ℕ) (es : List Entry) → positionsGood count es ≡ true → Below count (hits k1 k2 es)
+unfolding hits positionsGood
+hits-below k1 k2 count [] g = tt
+hits-below k1 k2 count (e ∷ es) g =
+    let t = both (ltb (e .position) count) (positionsGood count es) g in
+    go (within k1 k2 (e .load)) (ltb-true (e .position) count (t .0)) (hits-below k1 k2 count es (t .1))
+  where
+    go : (q : Bool) → e .position < count → Below count (hits k1 k2 es)
+        → Below count (cond q (e .position ∷ hits k1 k2 es) (hits k1 k2 es))
+    go true l h = (l, h)
+    go false l h = h
+
+then-below : (n : ℕ) (hs : List ℕ) (o : Option (List ℕ)) (ps : List ℕ) → andThen hs o ≡ some ps → Below n hs
+    → ((qs : List ℕ) → o ≡ some qs → Below n qs) → Below n ps
+then-below n hs none ps e h k = none-some e
+then-below n hs (some qs) ps e h k = let d : hs ++ qs ≡ ps = cc in rw (← d) (below-append n hs qs h (k qs refl))
+
+module _ (area : List ℕ) (buckets count : ℕ) (codes : ℕ → ℕ) (k1 k2 : ℕ) where
+  visited-below : (b : ℕ) → visitGood area buckets count codes k1 k2 b ≡ true
+      → Below count (hits k1 k2 (nodeAt area buckets count codes k1 k2 b .entries))
+  visited-below b g =
+      let n = nodeAt area buckets count codes k1 k2 b in
+      hits-below k1 k2 count (n .entries)
+      (sound n b buckets count (both (nodeGood n b buckets count) (recordsGood codes k1 k2 (n .entries)) g .0) .positions)
+
+  from-below : (n b : ℕ) (r : ℕ → Bool) (ps : List ℕ) → sweepFrom area buckets count codes k1 k2 n b r ≡ some ps → Below count ps
+  unfolding sweepFrom
+  from-below zero b r ps e = let d : [] ≡ ps = cc in rw (← d) tt
+  from-below (suc n) b r ps e =
+      if (r b)
+      (λ f. if (visitGood area buckets count codes k1 k2 b)
+      (λ g. then-below count _ _ ps (rw (f, g) at e) (visited-below b g) (λ qs.
+      from-below n (suc b) (reached k1 k2 (kidsOf (nodeAt area buckets count codes k1 k2 b)) r) qs))
+      (λ g. none-some (rw (f, g) at e)))
+      (λ f. then-below count [] _ ps (rw f at e) tt (λ qs. from-below n (suc b) r qs))
+
+  -- for any bytes: what is found are positions of lifts
+  pub sweep-below : (ps : List ℕ) → sweepOn area buckets count codes k1 k2 ≡ some ps → Below count ps
+  unfolding sweepOn
+  sweep-below ps e = from-below buckets 0 (λ j. eqb j 0) ps e
+
+-- ---- the set that is handed back
+
+pub record Found (s : Sweep) (f : ℕ → Bool) : Type 0 where
+  pub good : s .good ≡ true
+  pub places : members (s .set .words) ≡ picked f 0 320
+
+module _ (tree lifts tail : List ℕ) (g : Records) (r : Range) where
+  abbrev swept : Option (List ℕ)
+  swept = sweepOn tree (g .buckets) (g .count) (codesOf lifts tail g) (r .k1) (r .k2)
+
+  pub swept-damaged : swept ≡ none → sweptOf tree lifts tail g r .good ≡ false
+  unfolding sweptOf
+  swept-damaged e = rw e
+
+  pub swept-found : g .count ≤ 320 → (ps : List ℕ) → swept ≡ some ps → Found (sweptOf tree lifts tail g r) (λ p. elem p ps)
+  unfolding sweptOf
+  swept-found few ps e =
+      let h = sweep-below tree (g .buckets) (g .count) (codesOf lifts tail g) (r .k1) (r .k2) ps e in
+      let b = below-more (g .count) 320 ps few h in
+      rw e (record { good = refl; places = members-inserted-all ps b })
+
+  -- the tree of at most 320 loads, whose records have those loads: the places of the loads in the range
+  pub swept-built : (ls : List ℕ) → Loads ls → length ls ≤ 320 → (t : List Bucket) → treeOf ls ≡ some t → tree ≡ treeBytes t
+      → g .buckets ≡ length t → g .count ≡ length ls → ((p : ℕ) → p < length ls → codesOf lifts tail g p ≡ getD ls p 0)
+      → Found (sweptOf tree lifts tail g r) (λ p. ltb p (length ls) && within (r .k1) (r .k2) (getD ls p 0))
+  swept-built ls ok few t e et eb ec same =
+      let b = sweep-built ls ok few t e (codesOf lifts tail g) same (r .k1) (r .k2) in
+      let s : swept ≡ some (find (r .k1) (r .k2) t) = rw (et, eb, ec) b in
+      let f = swept-found (omega (arith, ec)) (find (r .k1) (r .k2) t) s in
+      record {
+        good = f .good;
+        places = f .places ∙ picked-same _ _ 0 320 (λ p a b. find-elem ls ok t e (r .k1) (r .k2) p);
+      }
