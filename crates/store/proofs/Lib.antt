@@ -3,7 +3,7 @@ pub mod Grounds
 pub mod Steps
 pub mod Outcomes
 pub mod Slots
-pub mod Parts
+pub mod Putting
 pub mod Forced
 pub mod Blocked
 pub mod Appended

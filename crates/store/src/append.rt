@@ -1,131 +1,29 @@
-// The pieces of an append (document 01, "Segments"): its plan, grounds 10 and 11, the close and the drop that make room, and the
-// lift that is put.
+// Append (document 01, "Segments") and its pieces: the plan, grounds 10 and 11, the close and the drop that make room, and the lift
+// that is put.
+use crate::Answer;
 use crate::State;
-use flash::Page;
+use crate::parts;
 use grow::Plan;
 ghost use mathlib.Core.Path.{_≡_};
-ghost use mathlib.Core.Bool.{true, false, cond, not, _&&_, _||_};
+ghost use mathlib.Core.Bool.{true, false, cond, not, _&&_};
 ghost use mathlib.Core.List.{List, []};
-ghost use Prim.Native.Nat.{ℕ, _+_, _-_, _*_, _/_, _%_, _^_, _≤_, _<_};
-ghost use lib.Dec.{eqb};
+ghost use Prim.Native.Nat.{ℕ, _+_, _-_, _*_, _%_, _≤_, _<_};
 ghost use lib.IntN.{ℤ};
 ghost use lib.ListN.{length};
-ghost use Rattle.codec.specs.Area.{part, splice, allOnes};
-ghost use Rattle.flash.specs.Chip.{slotOf, erasedPage, pageErased, programmed};
+ghost use Rattle.flash.specs.Chip.{erasedPage, programmed};
 ghost use Rattle.lift.specs.Limits.{loadOk, stored};
-ghost use Rattle.bloom.specs.Bloom.{emptySection, noted};
-ghost use Rattle.tree.specs.Plan as Tree;
+ghost use Rattle.bloom.specs.Bloom.{emptySection};
 ghost use Rattle.tree.specs.Plan.{noRoom, isDamaged, isNoRoom};
-ghost use Rattle.tree.specs.Writes.{writesOf, allWritten};
 ghost use Rattle.grow.specs.Meaning.{meaning, Fitting};
 ghost use Rattle.bounds.specs.Bounds.{loadsOk};
-ghost use Rattle.store.specs.World.{world, closeWorld, putWorld, pageWith, bloomWith, fillsPage, fillsSection, sectionStart};
-ghost use Rattle.store.specs.Calls.{boundsGround, dropDamage, planOf, roomWorld, norClear};
-ghost use Rattle.store.specs.Calls as Calls;
+ghost use Rattle.store.specs.World.{world, closeWorld, putWorld, pageWith, bloomWith, fillsPage, fillsSection};
+ghost use Rattle.store.specs.Calls.{answered, appendOutcome, boundsGround, dropDamage, planOf, roomWorld, norClear};
 ghost use Rattle.store.specs.Pieces as Pieces;
 ghost use Rattle.store.specs.Pieces.{Suits, laterGround, dropDue, stateGiven, entryGround};
 
-fn is_damaged_plan(p: Plan) -> bool
-    ensures { λ r. ⌜ r ≡ isDamaged (meaning p) ⌝ }
-{
-    match p {
-        Plan::Damage => true,
-        Plan::Full => false,
-        Plan::Root => false,
-        Plan::Entry(_, _) => false,
-        Plan::Child(_, _, _, _) => false,
-        Plan::Split(_, _, _, _, _) => false,
-    }
-}
-
-// The segment closes first.
-fn is_full(p: Plan) -> bool
-    ensures { λ r. ⌜ r ≡ isNoRoom (meaning p) ⌝ }
-{
-    match p {
-        Plan::Damage => false,
-        Plan::Full => true,
-        Plan::Root => false,
-        Plan::Entry(_, _) => false,
-        Plan::Child(_, _, _, _) => false,
-        Plan::Split(_, _, _, _, _) => false,
-    }
-}
-
-// The Bloom section that the lift at this place fills can be written.
-fn section_clear(nor: &[u8], count: u16) -> bool
-    requires { ⌜ (length (now nor) ≡ 6144) × (count ≤ 320) ⌝ }
-    ensures { λ r. ⌜ r ≡ (not (eqb (count % 64) 63) || allOnes (part (now (nor .entry)) (4608 + count / 64 * 128) 128)) ⌝ }
-{
-    let n = count as usize;
-    if n % 64 != 63 {
-        return true;
-    }
-    codec::all_ones(nor, 4608 + n / 64 * 128, 128)
-}
-
-// The page that the lift at this place fills can be programmed.
-fn page_free(nand: &[u8], slot: usize, count: u16) -> bool
-    requires { ⌜ (slot * 16384 + 16384 ≤ length (now nand)) × (count ≤ 320) ⌝ }
-    ensures { λ r. ⌜ r ≡ not (eqb (count % 16) 15 && not (pageErased (now (nand .entry)) slot (count / 16))) ⌝ }
-{
-    let n = count as usize;
-    if n % 16 != 15 {
-        return true;
-    }
-    flash::is_erased(nand, slot, Page(n / 16))
-}
-
-// The page buffer after a lift; it goes to NAND when it is full.
-fn page_after(nand: &mut [u8], slot: usize, count: u16, page: [u8; 512]) -> [u8; 512]
-    requires { ⌜ (slot * 16384 + 16384 ≤ length (now nand)) × (count ≤ 320) ⌝ }
-    ensures nand { λ _. ⌜ now (nand .exit) ≡ cond (eqb (count % 16) 15) (programmed (now (nand .entry)) slot (count / 16) page) (now (nand .entry)) ⌝ }
-    ensures page { λ r. ⌜ r ≡ cond (eqb (count % 16) 15) erasedPage page ⌝ }
-{
-    let n = count as usize;
-    if n % 16 != 15 {
-        return page;
-    }
-    flash::program(nand, slot, Page(n / 16), page);
-    crate::blank_page()
-}
-
-// The Bloom buffer after a lift; it goes to NOR when it is full.
-fn section_after(nor: &mut [u8], count: u16, section: [u8; 128]) -> [u8; 128]
-    requires { ⌜ (length (now nor) ≡ 6144) × (count ≤ 320) ⌝ }
-    ensures nor { λ _. ⌜ now (nor .exit) ≡ cond (eqb (count % 64) 63) (splice (now (nor .entry)) (4608 + count / 64 * 128) section) (now (nor .entry)) ⌝ }
-    ensures section { λ r. ⌜ r ≡ cond (eqb (count % 64) 63) emptySection section ⌝ }
-{
-    let n = count as usize;
-    if n % 64 != 63 {
-        return section;
-    }
-    codec::copy(nor, 4608 + n / 64 * 128, &section);
-    bloom::empty_section()
-}
-
-// The segment's start after a lift, and the oldest live time.
-fn start_after(count: u16, start: u64, time: u64) -> u64
-    ensures { λ r. ⌜ r ≡ cond (eqb count 0) time start ⌝ }
-{
-    if count == 0 {
-        return time;
-    }
-    start
-}
-
-fn live_after(count: u16, oldest: u32, current: u32, live: u64, time: u64) -> u64
-    ensures { λ r. ⌜ r ≡ cond (eqb count 0 && eqb oldest current) time live ⌝ }
-{
-    if (count == 0) & (oldest == current) {
-        return time;
-    }
-    live
-}
-
 impl State {
     // Grounds 1 to 8.
-    pub fn entry_ground(self, nand: usize, nor: usize, slots: u64, time: u64, load: i32) -> u8
+    fn entry_ground(self, nand: usize, nor: usize, slots: u64, time: u64, load: i32) -> u8
         ensures { λ r. ⌜ r ≡ entryGround self nand nor slots time load ⌝ }
     {
         let n = self.ground(nand, nor, slots);
@@ -136,7 +34,7 @@ impl State {
     }
 
     // Where the load goes, by the buckets on its path.
-    pub fn plan(self, nor: &[u8], code: u32) -> Plan
+    fn plan(self, nor: &[u8], code: u32) -> Plan
         requires { ⌜ (length (now nor) ≡ 6144) × (self .buckets ≤ 36) × (self .count ≤ 320) × (loadsOk (self .loads) ≡ true) ⌝ }
         ensures is { λ r. ⌜ ((load : ℤ) → code ≡ stored load → meaning r ≡ planOf (world [] (now (nor .entry)) self) load) ⌝ }
         ensures suits { λ r. ⌜ Suits self r ⌝ }
@@ -210,7 +108,7 @@ impl State {
         ensures { λ r. ⌜ ((load : ℤ) → code ≡ stored load → r ≡ norClear (world [] (now (nor .entry)) self) load (meaning p)) ⌝ }
     {
         let w = grow::writes_of(p, self.buckets, code, self.count);
-        grow::clear(nor, w) & section_clear(nor, self.count)
+        grow::clear(nor, w) & parts::section_clear(nor, self.count)
     }
 
     // Grounds 10 and 11 of an append into the open segment as it is.
@@ -226,22 +124,22 @@ impl State {
             return 10;
         }
         let slot = flash::slot_of(self.current, slots);
-        if !page_free(nand, slot, self.count) {
+        if !parts::page_free(nand, slot, self.count) {
             return 11;
         }
         0
     }
 
     // Grounds 10 and 11.
-    pub fn blocked(self, nand: &[u8], nor: &[u8], slots: u64, code: u32, p: Plan) -> u8
+    fn blocked(self, nand: &[u8], nor: &[u8], slots: u64, code: u32, p: Plan) -> u8
         requires { ⌜ (boundsGround self (length (now nand)) (length (now nor)) slots ≡ 0) × Suits self p ⌝ }
         ensures { λ r. ⌜ ((load : ℤ) → code ≡ stored load → r
             ≡ laterGround (world (now (nand .entry)) (now (nor .entry)) self) slots load (meaning p)) ⌝ }
     {
-        if is_damaged_plan(p) {
+        if parts::is_damaged_plan(p) {
             return 10;
         }
-        if is_full(p) {
+        if parts::is_full(p) {
             return self.blocked_closing(nand, slots);
         }
         self.blocked_put(nand, nor, slots, code, p)
@@ -253,7 +151,7 @@ impl State {
         ensures { λ r. ⌜ world (now (nand .exit)) (now (nor .exit)) r
             ≡ roomWorld (world (now (nand .entry)) (now (nor .entry)) self) slots (meaning p) ⌝ }
     {
-        if is_full(p) {
+        if parts::is_full(p) {
             return self.closed(nand, nor, slots);
         }
         self
@@ -289,8 +187,14 @@ impl State {
         let n = self.count as usize;
         let slot = flash::slot_of(self.current, slots);
         let old = self.page;
-        let full = lift::with_record(old, n % 16 * 32, time, code, note);
-        page_after(nand, slot, self.count, full)
+        let full = lift::with_record(
+            old,
+            n % parts::LIFTS_PER_PAGE * lift::RECORD_BYTES,
+            time,
+            code,
+            note,
+        );
+        parts::page_after(nand, slot, self.count, full)
     }
 
     // The entry goes into the tree, the load's bits into the section, and a full section to NOR.
@@ -306,7 +210,7 @@ impl State {
         grow::carry(nor, w);
         let old = self.bloom;
         let full = bloom::note(old, code);
-        section_after(nor, self.count, full)
+        parts::section_after(nor, self.count, full)
     }
 
     // The state with the lift, its bucket count and buffers given.
@@ -326,8 +230,8 @@ impl State {
         let loads = bounds::pushed(old, self.count, load);
         let low = bounds::low_after(self.count, self.low, load);
         let high = bounds::high_after(self.count, self.high, load);
-        let start = start_after(self.count, self.start, time);
-        let live = live_after(self.count, self.oldest, self.current, self.live, time);
+        let start = parts::start_after(self.count, self.start, time);
+        let live = parts::live_after(self.count, self.oldest, self.current, self.live, time);
         State {
             oldest: self.oldest,
             current: self.current,
@@ -370,7 +274,7 @@ impl State {
     }
 
     // Room for the lift, then the lift.
-    pub fn carried_out(
+    fn carried_out(
         self,
         nand: &mut [u8],
         nor: &mut [u8],
@@ -388,5 +292,40 @@ impl State {
         let a = self.room(nand, nor, slots, p);
         let b = a.dropped_first(nand, slots);
         b.put(nand, nor, slots, time, load, note, p)
+    }
+
+    pub fn append(
+        self,
+        nand: &mut [u8],
+        nor: &mut [u8],
+        slots: u64,
+        time: u64,
+        load: i32,
+        note: [u8; 20],
+    ) -> Answer
+        ensures { λ r. ⌜ answered (r .number) (now (nand .exit)) (now (nor .exit)) (r .state)
+            ≡ appendOutcome (world (now (nand .entry)) (now (nor .entry)) self) slots time load note ⌝ }
+    {
+        let n = self.entry_ground(nand.len(), nor.len(), slots, time, load);
+        if n != 0 {
+            return Answer {
+                number: n,
+                state: self,
+            };
+        }
+        let code = lift::stored(load);
+        let p = self.plan(nor, code);
+        let m = self.blocked(nand, nor, slots, code, p);
+        if m != 0 {
+            return Answer {
+                number: m,
+                state: self,
+            };
+        }
+        let s = self.carried_out(nand, nor, slots, time, load, note, p);
+        Answer {
+            number: 0,
+            state: s,
+        }
     }
 }

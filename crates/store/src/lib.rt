@@ -1,24 +1,24 @@
 // The store (document 01, "State", "Segments", "Twelve grounds"): its state by value, and the calls as methods.
 mod append;
+mod parts;
 
 use flash::Page;
 use segment::Closing;
 use segment::Header;
 use skiplist::Pointer;
 ghost use mathlib.Core.Path.{_≡_};
-ghost use mathlib.Core.Bool.{true, false};
-ghost use mathlib.Core.List.{[]};
-ghost use Prim.Native.Nat.{ℕ, _+_, _-_, _*_, _^_, _≤_, _<_};
+ghost use mathlib.Core.Bool.{true};
+ghost use Prim.Native.Nat.{_+_, _-_, _*_, _^_, _≤_, _<_};
 ghost use lib.ListN.{length};
-ghost use Rattle.flash.specs.Chip.{slotOf, pageOf, erasedPage, slotErased};
+ghost use Rattle.flash.specs.Chip.{slotOf, pageOf, slotErased};
 ghost use Rattle.lift.specs.Limits.{loadOk};
 ghost use Rattle.segment.specs.Header.{headerIn};
 ghost use Rattle.store.specs.Bounds.{headsOk, withinBounds};
 ghost use Rattle.store.specs.World as World;
-ghost use Rattle.store.specs.World.{world, closeWorld, dropWorld};
+ghost use Rattle.store.specs.World.{world, closeWorld};
 ghost use Rattle.store.specs.Calls as Calls;
-ghost use Rattle.store.specs.Calls.{answered, formatted, boundsGround, closeGround};
-ghost use Rattle.store.specs.Calls.{formatOutcome, appendOutcome, closeOutcome, dropOutcome};
+ghost use Rattle.store.specs.Calls.{answered, formatted, boundsGround};
+ghost use Rattle.store.specs.Calls.{formatOutcome, closeOutcome, dropOutcome};
 
 // The state, by value, in the order of document 01's list. The last loads, low and high are signed, as logged.
 pub struct State {
@@ -49,12 +49,6 @@ pub struct Renewal {
     pub live: u64,
 }
 
-pub fn blank_page() -> [u8; 512]
-    ensures { λ r. ⌜ r ≡ erasedPage ⌝ }
-{
-    [255u8; 512]
-}
-
 fn heads_ok(heads: [Pointer; 4], slots: u64) -> bool
     ensures { λ r. ⌜ r ≡ headsOk heads slots ⌝ }
 {
@@ -66,7 +60,7 @@ fn heads_ok(heads: [Pointer; 4], slots: u64) -> bool
 }
 
 // The header of a closed serial, which is to be below the serial `before`.
-pub fn header_of(nand: &[u8], slots: u64, serial: u32, before: u32) -> Header
+fn header_of(nand: &[u8], slots: u64, serial: u32, before: u32) -> Header
     requires { ⌜ (length (now nand) ≡ slots * 16384) × (1 ≤ slots) × (1 ≤ serial) ⌝ }
     ensures { λ r. ⌜ r ≡ headerIn (pageOf (now (nand .entry)) (slotOf serial slots) 31) slots before ⌝ }
 {
@@ -81,7 +75,7 @@ impl State {
     {
         let heads = skiplist::no_heads();
         let loads = bounds::no_loads();
-        let page = blank_page();
+        let page = parts::blank_page();
         let bloom = bloom::empty_section();
         State {
             oldest: 1,
@@ -116,7 +110,7 @@ impl State {
     }
 
     // Grounds 1 to 3.
-    pub fn ground(self, nand: usize, nor: usize, slots: u64) -> u8
+    fn ground(self, nand: usize, nor: usize, slots: u64) -> u8
         ensures { λ r. ⌜ r ≡ boundsGround self nand nor slots ⌝ }
     {
         let n = bounds::chips_ground(nand, nor, slots);
@@ -130,7 +124,7 @@ impl State {
     }
 
     // What a close needs.
-    pub fn closing(self) -> Closing
+    fn closing(self) -> Closing
         requires { ⌜ (1 ≤ self .next) × (loadOk (self .low) ≡ true) × (loadOk (self .high) ≡ true) ⌝ }
         ensures { λ r. ⌜ r ≡ World.closing self ⌝ }
     {
@@ -163,7 +157,7 @@ impl State {
         let p = Pointer::new(slot as u16, self.start);
         let heads = skiplist::heads_after(old, level, p);
         let loads = bounds::no_loads();
-        let page = blank_page();
+        let page = parts::blank_page();
         let section = bloom::empty_section();
         self.heads = heads;
         self.loads = loads;
@@ -179,7 +173,7 @@ impl State {
     }
 
     // The open segment is closed.
-    pub fn closed(self, nand: &mut [u8], nor: &mut [u8], slots: u64) -> State
+    fn closed(self, nand: &mut [u8], nor: &mut [u8], slots: u64) -> State
         requires { ⌜ (boundsGround self (length (now nand)) (length (now nor)) slots ≡ 0) × (1 ≤ self .count) ⌝ }
         ensures { λ r. ⌜ world (now (nand .exit)) (now (nor .exit)) r
             ≡ closeWorld (world (now (nand .entry)) (now (nor .entry)) self) slots ⌝ }
@@ -192,7 +186,7 @@ impl State {
     }
 
     // The oldest closed segment is erased.
-    pub fn dropped(mut self, nand: &mut [u8], slots: u64, live: u64) -> State
+    fn dropped(mut self, nand: &mut [u8], slots: u64, live: u64) -> State
         requires { ⌜ (length (now nand) ≡ slots * 16384) × (1 ≤ slots) × (1 ≤ self .oldest) × (self .oldest < self .current) ⌝ }
         ensures { λ r. ⌜ (now (nand .exit) ≡ slotErased (now (nand .entry)) (slotOf (self .oldest) slots))
             × (r ≡ World.withoutOldest self live) ⌝ }
@@ -205,7 +199,7 @@ impl State {
     }
 
     // What a drop finds in the header of the closed segment that becomes oldest; the open segment has no header.
-    pub fn renewal(self, nand: &[u8], slots: u64) -> Renewal
+    fn renewal(self, nand: &[u8], slots: u64) -> Renewal
         requires { ⌜ (length (now nand) ≡ slots * 16384) × (1 ≤ slots) × (self .oldest < self .current) ⌝ }
         ensures { λ r. ⌜ r ≡ Calls.renewal (now (nand .entry)) self slots ⌝ }
     {
@@ -306,41 +300,6 @@ impl State {
             };
         }
         let s = self.dropped(nand, slots, r.live);
-        Answer {
-            number: 0,
-            state: s,
-        }
-    }
-
-    pub fn append(
-        self,
-        nand: &mut [u8],
-        nor: &mut [u8],
-        slots: u64,
-        time: u64,
-        load: i32,
-        note: [u8; 20],
-    ) -> Answer
-        ensures { λ r. ⌜ answered (r .number) (now (nand .exit)) (now (nor .exit)) (r .state)
-            ≡ appendOutcome (world (now (nand .entry)) (now (nor .entry)) self) slots time load note ⌝ }
-    {
-        let n = self.entry_ground(nand.len(), nor.len(), slots, time, load);
-        if n != 0 {
-            return Answer {
-                number: n,
-                state: self,
-            };
-        }
-        let code = lift::stored(load);
-        let p = self.plan(nor, code);
-        let m = self.blocked(nand, nor, slots, code, p);
-        if m != 0 {
-            return Answer {
-                number: m,
-                state: self,
-            };
-        }
-        let s = self.carried_out(nand, nor, slots, time, load, note, p);
         Answer {
             number: 0,
             state: s,

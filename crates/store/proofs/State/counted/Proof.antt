@@ -3,7 +3,7 @@ use mathlib.Core.Path.{ap₂, ap, _∙_}
 use Rattle.bounds.specs.Lifts.{pushed, lowWith, highWith}
 use mir.Syntax.{w32}
 use mir.ValLaws.{toZ-ofZ}
-use Rattle.store.proofs.Parts.{counted-made}
+use Rattle.store.proofs.Putting.{counted-made}
 use borrow.Author.Needs.{needs}
 use Rattle.store.proofs.State.counted.Statement.{statement}
 use Rattle.store.proofs.State.counted.Tie as tie

@@ -1,6 +1,6 @@
 -- `indexed`: the entry into the tree, the bits into the section, a full section to NOR.
 use mathlib.Core.List.{[]}
-use Rattle.store.proofs.Parts.{indexed-nor, indexed-section}
+use Rattle.store.proofs.Putting.{indexed-nor, indexed-section}
 use borrow.Author.Needs.{needs}
 use Rattle.store.proofs.State.indexed.Statement.{statement}
 use Rattle.store.proofs.State.indexed.Tie as tie

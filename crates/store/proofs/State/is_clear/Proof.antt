@@ -1,5 +1,5 @@
 -- `is_clear`: the tree's bytes, then the section's.
-use Rattle.store.proofs.Parts.{clear-all}
+use Rattle.store.proofs.Putting.{clear-all}
 use borrow.Author.Needs.{needs}
 use Rattle.store.proofs.State.is_clear.Statement.{statement}
 use Rattle.store.proofs.State.is_clear.Tie as tie

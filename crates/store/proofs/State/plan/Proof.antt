@@ -1,5 +1,5 @@
 -- `plan`: the plan for the buckets in NOR and the last loads as stored.
-use Rattle.store.proofs.Parts.{codes-within, tree-long, planned, suited}
+use Rattle.store.proofs.Putting.{codes-within, tree-long, planned, suited}
 use borrow.Author.Needs.{needs}
 use Rattle.store.proofs.State.plan.Statement.{statement}
 use Rattle.store.proofs.State.plan.Tie as tie

@@ -4,7 +4,7 @@ use mir.ValLaws.{toZ-ofZ}
 use Rattle.lift.specs.Limits.{stored}
 use Rattle.lift.proofs.Codes.{within-limits}
 use Rattle.grow.specs.Meaning.{meaning}
-use Rattle.store.proofs.Parts.{put-made}
+use Rattle.store.proofs.Putting.{put-made}
 use native.Mathlib.Omega.{arith}
 use borrow.Author.Needs.{needs}
 use Rattle.store.proofs.State.put.Statement.{statement}

@@ -1,5 +1,5 @@
 -- `recorded`: the record into the page buffer, a full page to NAND.
-use Rattle.store.proofs.Parts.{recorded-nand, recorded-page}
+use Rattle.store.proofs.Putting.{recorded-nand, recorded-page}
 use borrow.Author.Needs.{needs}
 use Rattle.store.proofs.State.recorded.Statement.{statement}
 use Rattle.store.proofs.State.recorded.Tie as tie

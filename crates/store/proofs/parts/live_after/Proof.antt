@@ -1,6 +1,6 @@
 -- `live_after`: by the test.
-use Rattle.store.proofs.append.live_after.Statement.{statement}
-use Rattle.store.proofs.append.live_after.Tie as tie
+use Rattle.store.proofs.parts.live_after.Statement.{statement}
+use Rattle.store.proofs.parts.live_after.Tie as tie
 
 returns : tie.Need-returns
 returns c = rw (c .if1 .taken)

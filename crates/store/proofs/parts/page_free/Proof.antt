@@ -1,11 +1,11 @@
 -- `page_free`: asked of a page's sixteenth lift alone.
 use Prim.Native.Nat.{_/_, _%_}
 use Rattle.flash.specs.Chip.{pageErased}
-use Rattle.store.proofs.Parts.{asked, unasked}
+use Rattle.store.proofs.Putting.{asked, unasked}
 use native.Mathlib.Omega.{arith}
 use borrow.Author.Needs.{needs}
-use Rattle.store.proofs.append.page_free.Statement.{statement}
-use Rattle.store.proofs.append.page_free.Tie as tie
+use Rattle.store.proofs.parts.page_free.Statement.{statement}
+use Rattle.store.proofs.parts.page_free.Tie as tie
 
 returns : tie.Need-returns
 returns c =

@@ -1,8 +1,8 @@
 -- `start_after`: by the count.
 use mathlib.Core.Path.{refl}
-use Rattle.store.proofs.Parts.{chosen, passed}
-use Rattle.store.proofs.append.start_after.Statement.{statement}
-use Rattle.store.proofs.append.start_after.Tie as tie
+use Rattle.store.proofs.Putting.{chosen, passed}
+use Rattle.store.proofs.parts.start_after.Statement.{statement}
+use Rattle.store.proofs.parts.start_after.Tie as tie
 
 returns : tie.Need-returns
 returns c = chosen _ _ _ _ _ (c .if1 .taken) refl

@@ -1,8 +1,8 @@
 -- `section_after`: a section goes to NOR with its sixty-fourth lift.
-use Rattle.store.proofs.Parts.{chosen, passed}
+use Rattle.store.proofs.Putting.{chosen, passed}
 use borrow.Author.Needs.{needs}
-use Rattle.store.proofs.append.section_after.Statement.{statement}
-use Rattle.store.proofs.append.section_after.Tie as tie
+use Rattle.store.proofs.parts.section_after.Statement.{statement}
+use Rattle.store.proofs.parts.section_after.Tie as tie
 
 returns : tie.Need-returns
 returns c = (passed _ _ _ _ (c .if1 .taken), passed _ _ _ _ (c .if1 .taken))

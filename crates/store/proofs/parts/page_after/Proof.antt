@@ -1,8 +1,8 @@
 -- `page_after`: a page goes to NAND with its sixteenth lift.
-use Rattle.store.proofs.Parts.{chosen, passed}
+use Rattle.store.proofs.Putting.{chosen, passed}
 use borrow.Author.Needs.{needs}
-use Rattle.store.proofs.append.page_after.Statement.{statement}
-use Rattle.store.proofs.append.page_after.Tie as tie
+use Rattle.store.proofs.parts.page_after.Statement.{statement}
+use Rattle.store.proofs.parts.page_after.Tie as tie
 
 returns : tie.Need-returns
 returns c = (passed _ _ _ _ (c .if1 .taken), passed _ _ _ _ (c .if1 .taken))

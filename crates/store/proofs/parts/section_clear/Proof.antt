@@ -1,11 +1,11 @@
 -- `section_clear`: asked of a section's sixty-fourth lift alone.
 use Prim.Native.Nat.{_+_, _*_, _/_, _%_}
 use Rattle.codec.specs.Area.{part, allOnes}
-use Rattle.store.proofs.Parts.{asked-or, unasked-or}
+use Rattle.store.proofs.Putting.{asked-or, unasked-or}
 use native.Mathlib.Omega.{arith}
 use borrow.Author.Needs.{needs}
-use Rattle.store.proofs.append.section_clear.Statement.{statement}
-use Rattle.store.proofs.append.section_clear.Tie as tie
+use Rattle.store.proofs.parts.section_clear.Statement.{statement}
+use Rattle.store.proofs.parts.section_clear.Tie as tie
 
 returns : tie.Need-returns
 returns c =
