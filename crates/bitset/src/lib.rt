@@ -20,7 +20,7 @@ pub struct Next {
 }
 
 // 2 to the k.
-fn power(k: usize) -> u64
+pub fn power(k: usize) -> u64
     requires { ⌜ k < 64 ⌝ }
     ensures { λ r. ⌜ r ≡ 2 ^ k ⌝ }
 {

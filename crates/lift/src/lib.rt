@@ -1,11 +1,12 @@
 // A lift (document 01, "Chips and slots"): its limits, its load as stored, its record of 32 bytes.
 ghost use mathlib.Core.Path.{_≡_};
 ghost use mathlib.Core.Bool.{true};
-ghost use Prim.Native.Nat.{_+_, _^_, _≤_, _<_};
+ghost use Prim.Native.Nat.{_+_, _-_, _*_, _^_, _≤_, _<_};
 ghost use lib.ListN.{length};
 ghost use Rattle.codec.specs.Area.{splice};
 ghost use Rattle.lift.specs.Limits as Limits;
 ghost use Rattle.lift.specs.Record.{recordBytes, timeAt, codeAt};
+ghost use Rattle.lift.specs.Rows.{timeIn, codeIn, recordIn};
 
 // "a time (ms, 0 to 999,999,999,999,999)"
 pub const TIME_LIMIT: u64 = 999999999999999;
@@ -91,4 +92,44 @@ pub fn record_code(area: &[u8], at: usize) -> u32
     ensures { λ r. ⌜ r ≡ codeAt (now (area .entry)) at ⌝ }
 {
     codec::get_u32(area, at + CODE_AT)
+}
+
+// The time of the lift at place p of a segment, and its load as stored: the records before place `first` stand in `lifts`, the
+// others in `tail`.
+pub fn time_in(lifts: &[u8], tail: &[u8], first: usize, p: usize) -> u64
+    requires { ⌜ (p * 32 + 32 ≤ length (now lifts)) × ((p - first) * 32 + 32 ≤ length (now tail)) ⌝ }
+    ensures { λ r. ⌜ r ≡ timeIn (now (lifts .entry)) (now (tail .entry)) first p ⌝ }
+{
+    if p < first {
+        return record_time(lifts, p * RECORD_BYTES);
+    }
+    record_time(tail, (p - first) * RECORD_BYTES)
+}
+
+pub fn code_in(lifts: &[u8], tail: &[u8], first: usize, p: usize) -> u32
+    requires { ⌜ (p * 32 + 32 ≤ length (now lifts)) × ((p - first) * 32 + 32 ≤ length (now tail)) ⌝ }
+    ensures { λ r. ⌜ r ≡ codeIn (now (lifts .entry)) (now (tail .entry)) first p ⌝ }
+{
+    if p < first {
+        return record_code(lifts, p * RECORD_BYTES);
+    }
+    record_code(tail, (p - first) * RECORD_BYTES)
+}
+
+// The record of the lift at place p is copied to row `row` of the result area.
+pub fn put_row(area: &mut [u8], row: usize, lifts: &[u8], tail: &[u8], first: usize, p: usize)
+    requires { ⌜ (p * 32 + 32 ≤ length (now lifts)) × ((p - first) * 32 + 32 ≤ length (now tail)) ⌝ }
+    requires { ⌜ row * 32 + 32 ≤ length (now area) ⌝ }
+    ensures { λ _. ⌜ now (area .exit) ≡ splice (now (area .entry)) (row * 32) (recordIn (now (lifts .entry)) (now (tail .entry)) first p) ⌝ }
+{
+    let at = row * RECORD_BYTES;
+    if p < first {
+        let a = p * RECORD_BYTES;
+        let e = a + RECORD_BYTES;
+        codec::copy(area, at, &lifts[a..e]);
+        return;
+    }
+    let b = (p - first) * RECORD_BYTES;
+    let f = b + RECORD_BYTES;
+    codec::copy(area, at, &tail[b..f]);
 }

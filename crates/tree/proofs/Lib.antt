@@ -15,5 +15,6 @@ pub mod Planned
 pub mod Fields
 pub mod Written
 pub mod Inserted
+pub mod Looked
 pub mod Clears
 pub mod ByteExamples

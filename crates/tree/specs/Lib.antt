@@ -5,3 +5,5 @@ pub mod Reading
 pub mod Sweep
 pub mod Plan
 pub mod Writes
+pub mod Place
+pub mod Seen

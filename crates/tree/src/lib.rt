@@ -1,1 +1,184 @@
-// The tree of a segment's loads (document 01, "Tree"): so far its rules and their laws, in specs/ and proofs/.
+// The tree of a segment's loads (document 01, "Tree"): where a bucket stands, and what is read of it. The tree's area is 4,608 bytes,
+// in NOR from 0 and in pages 20 to 28 of a slot. The rules and their laws are in specs/ and proofs/.
+use flash::Page;
+ghost use mathlib.Core.Path.{_≡_};
+ghost use mathlib.Core.Bool.{not};
+ghost use Prim.Native.Nat.{_+_, _*_, _≤_, _<_};
+ghost use lib.Dec.{eqb};
+ghost use lib.ListN.{length};
+ghost use Rattle.codec.specs.Number.{numberAt};
+ghost use Rattle.tree.specs.Bytes.{noMid};
+ghost use Rattle.tree.specs.Reading.{bucketAt, entryIn, entriesFrom, childAt, kidsOf, childGood, kidsGood, positionsGood};
+ghost use Rattle.tree.specs.Place.{placeOf};
+ghost use Rattle.tree.specs.Seen.{headOf, seenNode};
+
+// "numbers run 0–35"
+pub const MAX_BUCKETS: u8 = 36;
+
+// "a bucket with 13 is full"
+pub const ENTRIES_PER_BUCKET: usize = 13;
+
+pub const BUCKET_BYTES: usize = 128;
+
+// "Mid and entries stay 255 until used", "255 none", "entries end at the first with position 65,535".
+pub const NO_MID: u32 = 4294967295;
+
+pub const NO_CHILD: u8 = 255;
+
+const NO_POSITION: u16 = 65535;
+
+// "The root range is (−50,001, 100,000]": the upper end, as stored.
+pub const TOP: u32 = 150001;
+
+const FIRST_PAGE: usize = 20;
+
+const BUCKETS_PER_PAGE: usize = 4;
+
+// Where the fields of a bucket and of an entry stand.
+pub const Y_AT: usize = 4;
+
+pub const MID_AT: usize = 8;
+
+pub const LEFT_AT: usize = 12;
+
+pub const RIGHT_AT: usize = 13;
+
+pub const ENTRIES_AT: usize = 24;
+
+pub const ENTRY_BYTES: usize = 8;
+
+// A bucket's number.
+pub struct Bucket(pub u8);
+
+// A page of the slot, and an offset in it.
+pub struct Place {
+    pub page: Page,
+    pub offset: usize,
+}
+
+// A bucket as it is read: whether it is without damage, its range (x, y], its mid and children, how many entries it has.
+pub struct Node {
+    pub good: bool,
+    pub x: u32,
+    pub y: u32,
+    pub mid: u32,
+    pub left: u8,
+    pub right: u8,
+    pub used: usize,
+}
+
+// A bucket's entries: whether every position is below the count, and how many there are.
+struct Entries {
+    good: bool,
+    used: usize,
+}
+
+// The one rule from a bucket's number to its page and offset.
+pub fn place_of(b: Bucket) -> Place
+    ensures { λ r. ⌜ r ≡ placeOf b ⌝ }
+{
+    let n = b.0 as usize;
+    Place {
+        page: Page(FIRST_PAGE + n / BUCKETS_PER_PAGE),
+        offset: n % BUCKETS_PER_PAGE * BUCKET_BYTES,
+    }
+}
+
+// Where a bucket starts in the tree's area, whose first page is 20.
+pub fn start_of(b: Bucket) -> usize
+    ensures { λ r. ⌜ r ≡ 128 * b .0 ⌝ }
+{
+    let p = place_of(b);
+    let page = p.page;
+    (page.0 - FIRST_PAGE) * flash::PAGE_BYTES + p.offset
+}
+
+// The 128 bytes of a bucket.
+pub fn bucket_of(tree: &[u8], b: Bucket) -> &[u8]
+    requires { ⌜ 128 * b .0 + 128 ≤ length (now tree) ⌝ }
+    ensures { λ r. ⌜ now r ≡ bucketAt (now (tree .entry)) (b .0) ⌝ }
+{
+    let a = start_of(b);
+    let e = a + BUCKET_BYTES;
+    &tree[a..e]
+}
+
+// Entry i of a bucket's bytes: its load as stored, and its position.
+pub fn entry_code(s: &[u8], i: usize) -> u32
+    requires { ⌜ (i < 13) × (128 ≤ length (now s)) ⌝ }
+    ensures { λ r. ⌜ r ≡ entryIn (now (s .entry)) i .load ⌝ }
+{
+    codec::get_u32(s, ENTRIES_AT + ENTRY_BYTES * i)
+}
+
+pub fn entry_position(s: &[u8], i: usize) -> u16
+    requires { ⌜ (i < 13) × (128 ≤ length (now s)) ⌝ }
+    ensures { λ r. ⌜ r ≡ entryIn (now (s .entry)) i .position ⌝ }
+{
+    codec::get_u16(s, ENTRIES_AT + 4 + ENTRY_BYTES * i)
+}
+
+// The entries before the first with position 65,535.
+fn entries_in(s: &[u8], count: u16) -> Entries
+    requires { ⌜ 128 ≤ length (now s) ⌝ }
+    ensures good { λ r. ⌜ r .good ≡ positionsGood count (entriesFrom (now (s .entry)) 13 0) ⌝ }
+    ensures used { λ r. ⌜ r .used ≡ length (entriesFrom (now (s .entry)) 13 0) ⌝ }
+{
+    let mut good = true;
+    let mut i: usize = 0;
+    while i < ENTRIES_PER_BUCKET {
+        let p = entry_position(s, i);
+        if p == NO_POSITION {
+            return Entries { good, used: i };
+        }
+        good = good & (p < count);
+        i += 1;
+    }
+    Entries { good, used: i }
+}
+
+// A child's number is above its parent's and below the bucket count, or 255 for none.
+fn child_ok(c: u8, b: Bucket, buckets: u8) -> bool
+    ensures { λ r. ⌜ r ≡ childGood (b .0) buckets (childAt c) ⌝ }
+{
+    if c == NO_CHILD {
+        return true;
+    }
+    (b.0 < c) & (c < buckets)
+}
+
+// The mid and the children, where the bucket is split.
+fn kids_ok(x: u32, y: u32, mid: u32, left: u8, right: u8, b: Bucket, buckets: u8) -> bool
+    ensures { λ r. ⌜ r ≡ kidsGood (b .0) buckets x y (kidsOf (headOf x y mid left right)) ⌝ }
+{
+    if mid == NO_MID {
+        return true;
+    }
+    let one = child_ok(left, b, buckets);
+    let two = child_ok(right, b, buckets);
+    (x < mid) & (mid <= y) & (one & two)
+}
+
+// Bucket b, of these bytes, is checked whole.
+pub fn node_in(s: &[u8], b: Bucket, buckets: u8, count: u16) -> Node
+    requires { ⌜ 128 ≤ length (now s) ⌝ }
+    ensures { λ r. ⌜ r ≡ seenNode (now (s .entry)) (b .0) buckets count ⌝ }
+{
+    let x = codec::get_u32(s, 0);
+    let y = codec::get_u32(s, Y_AT);
+    let mid = codec::get_u32(s, MID_AT);
+    let left = codec::get_u8(s, LEFT_AT);
+    let right = codec::get_u8(s, RIGHT_AT);
+    let kids = kids_ok(x, y, mid, left, right, b, buckets);
+    let entries = entries_in(s, count);
+    let good = (x < y) & (y <= TOP) & kids & entries.good;
+    Node {
+        good: good,
+        x: x,
+        y: y,
+        mid: mid,
+        left: left,
+        right: right,
+        used: entries.used,
+    }
+}

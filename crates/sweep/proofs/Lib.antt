@@ -1,0 +1,3 @@
+pub mod Mask
+pub mod Passing
+pub mod Visits
