@@ -9,10 +9,11 @@ use sweep::Sweep;
 ghost use mathlib.Core.Path.{_≡_};
 ghost use mathlib.Core.Bool.{_&&_};
 ghost use Prim.Native.Nat.{ℕ, _+_, _-_, _*_, _<_, _≤_};
-ghost use lib.ListN.{length};
+ghost use lib.ListN.{length, getD};
 ghost use Rattle.bitset.specs.Set.{emptyWords, insertAll, members, picked, has};
 ghost use Rattle.bitset.proofs.Set.{Below};
 ghost use Rattle.lift.specs.Rows.{timeIn};
+ghost use Rattle.skiplist.specs.Skip.{none};
 ghost use Rattle.sweep.specs.Swept.{sweptFrom, Recorded, Held};
 ghost use Rattle.walk.specs.Seek.{hopAt, skipWalk, startOf};
 ghost use Rattle.walk.specs.Visit.{isPassed, advanceOf, timely, matchesOf, closedMatches, openMatches};
@@ -68,6 +69,14 @@ pub struct SkipWalk {
     pub pointers: [Pointer; 4],
 }
 
+// The pointer of level k + 1.
+fn pointer_of(pointers: [Pointer; 4], k: usize) -> Pointer
+    requires { ⌜ k < 4 ⌝ }
+    ensures { λ r. ⌜ r ≡ getD pointers k none ⌝ }
+{
+    pointers[k]
+}
+
 // One header on, or one level down.
 fn hop(nand: &[u8], slots: u64, live: u64, t2: u64, w: SkipWalk) -> SkipWalk
     requires { ⌜ (length (now nand) ≡ slots * 16384) × (0 < w .level) × (w .level ≤ 4) ⌝ }
@@ -76,7 +85,7 @@ fn hop(nand: &[u8], slots: u64, live: u64, t2: u64, w: SkipWalk) -> SkipWalk
 {
     let pointers = w.pointers;
     let level = w.level - 1;
-    let p = pointers[level];
+    let p = pointer_of(pointers, level);
     let onward = p.is_live(live) & (t2 < p.time);
     if !onward {
         return SkipWalk {
@@ -145,7 +154,7 @@ pub fn start_of(nand: &[u8], g: Log, q: Query) -> Cursor
     let w = seek(nand, g, q.t2);
     let good = w.good;
     let pointers = w.pointers;
-    let first = pointers[0];
+    let first = pointer_of(pointers, 0);
     Cursor {
         good,
         last: !good,
@@ -190,7 +199,7 @@ pub fn advance(nand: &[u8], slots: u64, live: u64, q: Query, c: Cursor) -> Step
         return Step::Damage;
     }
     let next = h.next;
-    let first = next[0];
+    let first = pointer_of(next, 0);
     let d = Cursor {
         good: true,
         last: h.start <= q.t1,
