@@ -59,6 +59,11 @@ abbrev pub writtenIn : List ℕ → Option (List (List ℕ)) → List ℕ
 writtenIn area none = area
 writtenIn area (some rows) = splice area 0 (rowBytes rows)
 
+-- rows that end at row `end` and begin at row r are written
+pub record WrittenUpTo (area new : List ℕ) (rows : List (List ℕ)) (end r : ℕ) : Type 0 where
+  pub begins : r + length rows ≡ end
+  pub are : new ≡ splice area (r * 32) (rowBytes rows)
+
 -- no damage, and so many rows
 abbrev pub CountIs : ℕ → Option (List (List ℕ)) → Type 0
 CountIs n none = ⊥

@@ -22,7 +22,7 @@ ghost use Rattle.walk.specs.Sound.{Sound, ClosedSound, LogSound};
 ghost use Rattle.search.specs.Found.{foundRows};
 ghost use Rattle.search.specs.Answers.{SearchAnswer, searchAnswer, TallyAnswer, tallyAnswer, rowBytes};
 ghost use Rattle.search.specs.Turns.{rowsAfter, rowsIn, countOf, countedWith, CountsOn};
-ghost use Rattle.search.specs.Turns.{writtenIn, CountIs, WritesOn, countedAll, tallyOf, NoneAbove, TalliesOn};
+ghost use Rattle.search.specs.Turns.{writtenIn, WrittenUpTo, CountIs, WritesOn, countedAll, tallyOf, NoneAbove, TalliesOn};
 
 // Ground 10: damage is met. Ground 12: the lifts found outnumber the whole rows of the result area.
 const DAMAGE: u8 = 10;
@@ -177,6 +177,130 @@ fn count_closed(nand: &[u8], slots: u64, live: u64, q: Query, c: Cursor, total: 
         if done {
             let n = r.n;
             return n;
+        }
+    }
+}
+
+// The records of a set's places go to rows from `row` on, the lowest place first.
+fn put_rows(area: &mut [u8], row: usize, lifts: &[u8], tail: &[u8], g: Records, set: Bits)
+    requires { ⌜ Recorded (now lifts) (now tail) g ⌝ }
+    requires { ⌜ Below (g .count) (members (set .words)) ⌝ }
+    requires { ⌜ (row + length (members (set .words))) * 32 ≤ length (now area) ⌝ }
+    ensures { λ _. ⌜ now (area .exit) ≡ splice (now (area .entry)) (row * 32)
+        (rowBytes (map (recordIn (now (lifts .entry)) (now (tail .entry)) (g .first)) (members (set .words)))) ⌝ }
+{
+    let mut rest = set;
+    let mut to = row;
+    loop {
+        let n = rest.next();
+        let found = n.found;
+        if !found {
+            return;
+        }
+        lift::put_row(area, to, lifts, tail, g.first, n.at);
+        to += 1;
+        rest = n.rest;
+    }
+}
+
+// The rows of a closed segment end at row `end`; where they begin.
+fn write_one(area: &mut [u8], nand: &[u8], s: Closed, q: Query, end: u64) -> u64
+    requires { ⌜ ClosedSound (now nand) s ⌝ }
+    requires { ⌜ (length (rowsIn (closedRows (now nand) s q)) ≤ end) × (end * 32 ≤ length (now area)) ⌝ }
+    ensures { λ r. ⌜ WrittenUpTo (now (area .entry)) (now (area .exit)) (rowsIn (closedRows (now (nand .entry)) s q)) end r ⌝ }
+{
+    let m = walk::closed_matches(nand, s, q);
+    let set = m.set;
+    let row = end - set.count() as u64;
+    let lifts = walk::closed_lifts(nand, s);
+    let g = walk::closed_records(s);
+    put_rows(area, row as usize, lifts, lifts, g, set);
+    row
+}
+
+// Those of the open segment.
+fn write_open(
+    area: &mut [u8],
+    nand: &[u8],
+    nor: &[u8],
+    page: &[u8],
+    g: Log,
+    q: Query,
+    end: u64,
+) -> u64
+    requires { ⌜ LogSound (now nand) (now nor) g ⌝ }
+    requires { ⌜ length (now page) ≡ 512 ⌝ }
+    requires { ⌜ (length (rowsIn (openRows (now nand) (now nor) (now page) g q)) ≤ end) × (end * 32 ≤ length (now area)) ⌝ }
+    ensures { λ r. ⌜ WrittenUpTo (now (area .entry)) (now (area .exit))
+        (rowsIn (openRows (now (nand .entry)) (now (nor .entry)) (now (page .entry)) g q)) end r ⌝ }
+{
+    if g.count == 0 {
+        return end;
+    }
+    let m = walk::open_matches(nand, nor, page, g, q);
+    let set = m.set;
+    let row = end - set.count() as u64;
+    let lifts = walk::open_lifts(nand, g);
+    let r = walk::open_records(g);
+    put_rows(area, row as usize, lifts, page, r, set);
+    row
+}
+
+// One segment on.
+fn write_on(area: &mut [u8], nand: &[u8], slots: u64, live: u64, q: Query, w: Writing) -> Writing
+    requires { ⌜ (length (now nand) ≡ slots * 16384) × (1 ≤ q .k1) × (w .row * 32 ≤ length (now area)) ⌝ }
+    requires { ⌜ Sound slots (w .c) ⌝ }
+    requires { ⌜ w .done ≡ false ⌝ }
+    requires { ⌜ CountIs (w .row) (rowsAfter (now nand) slots live q (w .c)) ⌝ }
+    ensures { λ next. ⌜ WritesOn (now (nand .entry)) slots live q (now (area .entry)) (now (area .exit)) w next ⌝ }
+{
+    let c = w.c;
+    let row = w.row;
+    let step = walk::advance(nand, slots, live, q, c);
+    match step {
+        Step::End => Writing { done: true, c, row },
+        Step::Damage => Writing { done: true, c, row },
+        Step::Pass(d) => Writing {
+            done: false,
+            c: d,
+            row,
+        },
+        Step::Visit(s, d) => {
+            let before = write_one(area, nand, s, q, row);
+            Writing {
+                done: false,
+                c: d,
+                row: before,
+            }
+        }
+    }
+}
+
+// The rows of the closed segments from a cursor on, `row` of them, from the area's start on.
+fn write_closed(
+    area: &mut [u8],
+    nand: &[u8],
+    slots: u64,
+    live: u64,
+    q: Query,
+    c: Cursor,
+    row: u64,
+)
+    requires { ⌜ (length (now nand) ≡ slots * 16384) × (1 ≤ q .k1) × (row * 32 ≤ length (now area)) ⌝ }
+    requires { ⌜ Sound slots c ⌝ }
+    requires { ⌜ CountIs row (rowsAfter (now nand) slots live q c) ⌝ }
+    ensures { λ _. ⌜ now (area .exit) ≡ writtenIn (now (area .entry)) (rowsAfter (now (nand .entry)) slots live q c) ⌝ }
+{
+    let mut w = Writing {
+        done: false,
+        c,
+        row,
+    };
+    loop {
+        w = write_on(area, nand, slots, live, q, w);
+        let done = w.done;
+        if done {
+            return;
         }
     }
 }
