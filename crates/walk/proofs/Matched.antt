@@ -21,7 +21,7 @@ use Rattle.sweep.specs.declared.Records.{Records}
 use Rattle.sweep.specs.declared.Range.{Range}
 use Rattle.sweep.specs.declared.Sweep.{Sweep}
 use Rattle.sweep.specs.Swept.{sweptFrom, sweptOf}
-use Rattle.sweep.proofs.Passing.{and-both}
+use Rattle.tree.proofs.Clears.{both}
 use Rattle.walk.specs.declared.Query.{Query}
 use Rattle.walk.specs.Visit.{timely, timed, timedOf, matchesOf}
 
@@ -58,10 +58,10 @@ below-picked n f from (suc m) h = go (f from) refl (below-picked n f (suc from) 
 hits-below : (count k1 k2 : ℕ) (es : List Entry) → positionsGood count es ≡ true → Below count (hits k1 k2 es)
 unfolding positionsGood hits
 hits-below count k1 k2 [] e = tt
-hits-below count k1 k2 (x ∷ es) e = go (within k1 k2 (x .load)) (hits-below count k1 k2 es (and-both (ltb (x .position) count) _ e .1))
+hits-below count k1 k2 (x ∷ es) e = go (within k1 k2 (x .load)) (hits-below count k1 k2 es (both (ltb (x .position) count) _ e .1))
   where
     go : (t : Bool) → Below count (hits k1 k2 es) → Below count (cond t (x .position ∷ hits k1 k2 es) (hits k1 k2 es))
-    go true b = (ltb-true _ _ (and-both (ltb (x .position) count) _ e .0), b)
+    go true b = (ltb-true _ _ (both (ltb (x .position) count) _ e .0), b)
     go false b = b
 
 -- what is found is below n; damage finds nothing
@@ -78,9 +78,9 @@ module _ (area : List ℕ) (buckets count : ℕ) (recorded : ℕ → ℕ) (k1 k2
   unfolding nodeGood
   visit-below b e =
       let n : Node = nodeAt area buckets count recorded k1 k2 b in
-      let g : nodeGood n b buckets count ≡ true = and-both (nodeGood n b buckets count) (recordsGood recorded k1 k2 (n .entries)) e .0 in
+      let g : nodeGood n b buckets count ≡ true = both (nodeGood n b buckets count) (recordsGood recorded k1 k2 (n .entries)) e .0 in
       hits-below count k1 k2 (n .entries)
-      (and-both (ltb (n .x) (n .y) && leb (n .y) 150001 && kidsGood b buckets (n .x) (n .y) (kidsOf n)) (positionsGood count (n .entries)) g .1)
+      (both (ltb (n .x) (n .y) && leb (n .y) 150001 && kidsGood b buckets (n .x) (n .y) (kidsOf n)) (positionsGood count (n .entries)) g .1)
 
   from-below : (n b : ℕ) (r : ℕ → Bool) → AllBelow count (sweepFrom area buckets count recorded k1 k2 n b r)
   unfolding sweepFrom
@@ -200,7 +200,7 @@ matches-places tree lifts tail first count buckets q =
     go none a = tt
     go (some ps) a =
         let f : ℕ → Bool = λ p. elem p ps && timely q (timeIn lifts tail first p) in (
-          below-picked count f 0 320 (λ p e. below-elem count p ps a (and-both (elem p ps) _ e .0)),
+          below-picked count f 0 320 (λ p e. below-elem count p ps a (both (elem p ps) _ e .0)),
           members-inserted-all (picked f 0 320) (range-below f 0 320)
               ∙ picked-same (λ p. elem p (picked f 0 320)) f 0 320 (λ p u v. elem-picked f 0 320 p u v),
         )
