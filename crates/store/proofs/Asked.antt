@@ -42,7 +42,7 @@ module _ (s : State) (nand nor slots t1 t2 : ℕ) (k1 k2 : ℤ) (n : ℕ) (judge
 -- ---- where none of them holds
 
 heads-in : (slots : ℕ) (ps : List Pointer) → headsOk ps slots ≡ true → InSlots slots ps
-unfolding headsOk inSlots
+unfolding headsOk
 heads-in slots [] e k = refl
 heads-in slots (p ∷ ps) e zero = Within.and-left (inSlots p slots) (headsOk ps slots) e
 heads-in slots (p ∷ ps) e (suc k) = heads-in slots ps (Within.and-right (inSlots p slots) (headsOk ps slots) e) k
