@@ -22,14 +22,14 @@ use Rattle.search.specs.Turns.{rowsAfter, countOf, countedWith, countLef
 use Rattle.search.proofs.Matched.{FewIn, closed-few}
 use Rattle.search.proofs.Segments.{rows-end, rows-damage, pass-facts, rows-pass, visit-facts, rows-visit}
 
-never : {P : Type 0} → true ≡ false → P
+pub never : {P : Type 0} → true ≡ false → P
 never e = let z : _≡_ {A = ℕ} 0 1 = cc in absurd (omega arith)
 
 abbrev tally : Bool → ℕ → Counted
 tally good total = record { good = good; total = total }
 
 -- a count with the newer rows leads to the same as the older rows and these together
-count-join : (total : ℕ) (older newer : Option (List (List ℕ))) (more : Counted) → more ≡ countOf total newer
+pub count-join : (total : ℕ) (older newer : Option (List (List ℕ))) (more : Counted) → more ≡ countOf total newer
     → cond (not (more .good)) more (countOf (more .total) older) ≡ countOf total (joinRows older newer)
 count-join total none none more e = rw e
 count-join total (some older) none more e = rw e
@@ -38,7 +38,7 @@ count-join total (some older) (some newer) more e =
     let l = length-append older newer in
     rw e (ap (tally true) (omega arith))
 
-count-most : (total : ℕ) (newer : Option (List (List ℕ))) → FewIn newer → countOf total newer .total ≤ total + 320
+pub count-most : (total : ℕ) (newer : Option (List (List ℕ))) → FewIn newer → countOf total newer .total ≤ total + 320
 count-most total none f = omega arith
 count-most total (some rows) f = omega arith
 

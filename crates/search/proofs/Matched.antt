@@ -62,10 +62,13 @@ module _ (count : ℕ) (f : ℕ → List ℕ) where
     rows-counted none p is total = rw is
     rows-counted (some ps) p is total = rw (is, p .1, length-map ps f)
 
-    pub rows-good : (o : Option (List ℕ)) → m ≡ sweptFrom emptyWords o → (g : Bool) → m .good ≡ g
-        → cond g (some (map f (members (m .set .words)))) none ≡ cond g (some (rowsIn (rowsAt f o))) none
-        → Unit {0}
-    rows-good o is g e h = tt
+    pub rows-none : (o : Option (List ℕ)) → m ≡ sweptFrom emptyWords o → m .good ≡ false → rowsAt f o ≡ none
+    rows-none none is e = refl
+    rows-none (some ps) is e = let z : true ≡ false = sym (ap (λ (x : Sweep). x .good) is) ∙ e in cc
+
+    pub rows-some : (o : Option (List ℕ)) → m ≡ sweptFrom emptyWords o → m .good ≡ true → rowsAt f o ≡ some (rowsIn (rowsAt f o))
+    rows-some none is e = let z : false ≡ true = sym (ap (λ (x : Sweep). x .good) is) ∙ e in cc
+    rows-some (some ps) is e = refl
 
     pub rows-are : (o : Option (List ℕ)) → Places count o → m ≡ sweptFrom emptyWords o
         → map f (members (m .set .words)) ≡ rowsIn (rowsAt f o)
@@ -127,6 +130,14 @@ module _ (nand : List ℕ) (s : Closed) (q : Query) where
     unfolding closedRows
     closed-rows-are = rows-are (s .count) _ m (closedMatches nand s q) closed-places is
 
+    pub closed-none : m .good ≡ false → closedRows nand s q ≡ none
+    unfolding closedRows
+    closed-none e = rows-none (s .count) _ m (closedMatches nand s q) is e
+
+    pub closed-some : m .good ≡ true → closedRows nand s q ≡ some (rowsIn (closedRows nand s q))
+    unfolding closedRows
+    closed-some e = rows-some (s .count) _ m (closedMatches nand s q) is e
+
     pub closed-below : Below (s .count) (members (m .set .words))
     closed-below = rows-below (s .count) (λ p. []) m (closedMatches nand s q) closed-places is
 
@@ -152,6 +163,12 @@ module _ (nand nor page : List ℕ) (g : Log) (q : Query) where
 
     pub open-rows-are : map (recordIn (openLifts nand g) page (firstBuffered (g .count))) (members (m .set .words)) ≡ rowsIn (openRows nand nor page g q)
     open-rows-are = rw (open-some h) (rows-are (g .count) _ m (openMatches nand nor page g q) open-places is)
+
+    pub open-damage : m .good ≡ false → openRows nand nor page g q ≡ none
+    open-damage e = open-some h ∙ rows-none (g .count) _ m (openMatches nand nor page g q) is e
+
+    pub open-good : m .good ≡ true → openRows nand nor page g q ≡ some (rowsIn (openRows nand nor page g q))
+    open-good e = rw (open-some h) (rows-some (g .count) _ m (openMatches nand nor page g q) is e)
 
     pub open-below : Below (g .count) (members (m .set .words))
     open-below = rows-below (g .count) (λ p. []) m (openMatches nand nor page g q) open-places is

@@ -29,12 +29,10 @@ use Rattle.search.specs.Answers.{rowBytes}
 use Rattle.search.specs.Found.{joinRows}
 use Rattle.search.specs.Turns.{rowsAfter, rowsIn, writtenIn, WrittenUpTo, CountIs, writeLeft, WritesOn}
 use Rattle.search.proofs.Backwards.{backwards, splice-none}
+use Rattle.search.proofs.Counts.{never}
 use Rattle.search.proofs.Matched.{WideIn, record-size, closed-wide}
 use Rattle.search.proofs.Rows.{Wide, length-rows}
 use Rattle.search.proofs.Segments.{rows-end, rows-damage, pass-facts, rows-pass, visit-facts, rows-visit, rows-wide}
-
-never : {P : Type 0} → true ≡ false → P
-never e = let z : _≡_ {A = ℕ} 0 1 = cc in absurd (omega arith)
 
 -- ---- the records of a set
 

@@ -1,6 +1,6 @@
 -- The turns of the code's loops: rows counted, written and tallied segment by segment, the newest first. Assumes nothing.
 use mathlib.Core.Path.{_≡_}
-use mathlib.Core.Bool.{Bool, true, false, cond}
+use mathlib.Core.Bool.{true, false, cond}
 use mathlib.Core.Option.{Option, none, some}
 use mathlib.Core.List.{List, [], _∷_}
 use Prim.Native.Nat.{ℕ, _+_, _*_, _≤_, _<_}
@@ -10,14 +10,16 @@ use Rattle.bitset.specs.Set.{members}
 use Rattle.plate.specs.Plate.{noCounts, countedIn}
 use Rattle.sweep.specs.declared.Sweep.{Sweep}
 use Rattle.walk.specs.declared.Cursor.{Cursor}
+use Rattle.walk.specs.declared.Log.{Log}
 use Rattle.walk.specs.declared.Query.{Query}
+use Rattle.walk.specs.Visit.{openRows}
 use Rattle.walk.specs.Sound.{Sound}
 use Rattle.search.specs.declared.Counted.{Counted}
 use Rattle.search.specs.declared.Counting.{Counting}
 use Rattle.search.specs.declared.Plates.{Plates}
 use Rattle.search.specs.declared.Tallying.{Tallying}
 use Rattle.search.specs.declared.Writing.{Writing}
-use Rattle.search.specs.Found.{rowsFrom}
+use Rattle.search.specs.Found.{joinRows, rowsFrom, closedFound}
 use Rattle.search.specs.Answers.{rowBytes, rowCodes}
 
 -- the rows of the closed segments from a cursor on
@@ -28,6 +30,10 @@ rowsAfter nand slots live q c = rowsFrom (c .before + 1) nand slots live q c
 abbrev pub rowsIn : Option (List (List ℕ)) → List (List ℕ)
 rowsIn none = []
 rowsIn (some rows) = rows
+
+-- all rows, the closed segments from a cursor on
+abbrev pub allRows : List ℕ → List ℕ → List ℕ → Log → Query → Cursor → Option (List (List ℕ))
+allRows nand nor page g q c = joinRows (closedFound nand g q c) (openRows nand nor page g q)
 
 -- ---- counting
 
@@ -102,9 +108,9 @@ module _ (nand : List ℕ) (slots live : ℕ) (q : Query) where
   abbrev pub tallyLeft : Tallying → Plates
   tallyLeft r = cond (r .done) (r .n) (tallyOf (r .n .counts) (rowsAfter nand slots live q (r .c)))
 
-  pub record TalliesOn (most : ℕ) (r next : Tallying) : Type 0 where
+  pub record TalliesOn (r next : Tallying) : Type 0 where
     pub leads : tallyLeft next ≡ tallyLeft r
     pub good : next .done ≡ false → next .n .good ≡ true
     pub sound : next .done ≡ false → Sound slots (next .c)
     pub falls : next .done ≡ false → next .c .before < r .c .before
-    pub few : NoneAbove (most + 320) (next .n .counts)
+    pub few : (most : ℕ) → NoneAbove most (r .n .counts) → NoneAbove (most + 320) (next .n .counts)

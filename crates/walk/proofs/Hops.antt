@@ -19,7 +19,7 @@ use Rattle.walk.specs.declared.Log.{Log}
 use Rattle.walk.specs.declared.Query.{Query}
 use Rattle.walk.specs.declared.SkipWalk.{SkipWalk}
 use Rattle.walk.specs.Seek.{headerAt, hopAt, hop, hops, skipWalk, reachedBy, startOf}
-use Rattle.walk.specs.Sound.{InSlots, Sound}
+use Rattle.walk.specs.Sound.{InSlots, Begun}
 
 -- what stands in a list does not hang on the default
 pub same-default : {A : Type 0} (l : List A) (k : ℕ) (d e : A) → k < length l → getD l k d ≡ getD l k e
@@ -215,19 +215,14 @@ pub walk-starts : (slots current : ℕ) (heads : List Pointer) → InSlots slots
     → Walked slots current (record { good = true; level = 4; before = current; pointers = heads })
 walk-starts slots current heads h = record { stays = λ a. refl; most = omega arith; pointed = λ a. h; falling = λ a. omega arith }
 
--- where the closed segments begin: a pointer in the slots, a serial not above the open one
-pub record StartFacts (g : Log) (c : Cursor) : Type 0 where
-  pub sound : Sound (g .slots) c
-  pub before-most : c .good ≡ true → c .before ≤ g .current
-
-pub start-facts : (nand : List ℕ) (g : Log) (q : Query) → InSlots (g .slots) (g .heads) → StartFacts g (startOf nand g q)
+pub start-begun : (nand : List ℕ) (g : Log) (q : Query) → InSlots (g .slots) (g .heads) → Begun g (startOf nand g q)
 unfolding startOf skipWalk
-start-facts nand g q h = go (not (eqb (g .count) 0) && leb (g .start) (q .t1))
+start-begun nand g q h = go (not (eqb (g .count) 0) && leb (g .start) (q .t1))
   where
     v : Walked (g .slots) (g .current) (skipWalk nand g (q .t2))
     v = walked-on nand (g .slots) (g .live) (q .t2) (g .current + 4) (g .current) _ (walk-starts (g .slots) (g .current) (g .heads) h)
 
-    go : (b : Bool) → StartFacts g (cond b (record { good = true; last = true; next = none; before = g .current }) (reachedBy (skipWalk nand g (q .t2))))
+    go : (b : Bool) → Begun g (cond b (record { good = true; last = true; next = none; before = g .current }) (reachedBy (skipWalk nand g (q .t2))))
     go true = record { sound = λ e. refl; before-most = λ e. omega arith }
     go false = record { sound = λ e. v .pointed (not-false _ e) 0; before-most = v .falling }
 

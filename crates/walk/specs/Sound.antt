@@ -20,6 +20,11 @@ InSlots slots ps = (k : ℕ) → inSlots (getD ps k none) slots ≡ true
 abbrev pub Sound : ℕ → Cursor → Type 0
 Sound slots c = c .last ≡ false → inSlots (c .next) slots ≡ true
 
+-- a cursor where the closed segments begin: its serial is not above the open one
+pub record Begun (g : Log) (c : Cursor) : Type 0 where
+  pub sound : Sound (g .slots) c
+  pub before-most : c .good ≡ true → c .before ≤ g .current
+
 -- a closed segment to be searched
 pub record ClosedSound (nand : List ℕ) (s : Closed) : Type 0 where
   pub inside : s .slot * 16384 + 16384 ≤ length nand

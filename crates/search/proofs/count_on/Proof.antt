@@ -23,9 +23,10 @@ enum-known-step-2 c = search needs
 
 count-one-requires : tie.Need-count-one-requires
 count-one-requires c κs =
-    let a = c .before .before .before .before .before .before .before .args in
-    (visit-facts (a .nand .now) (a .slots) (a .live) (a .q) (c .before .before .before .before .before .before .before .pre .0 .0) (a .r .c) (c .before .before .before .before .before .before .before .pre .1 .0) _ _ (sym (c .before .before .before .advance .ensures) ∙ c .before .step2 .given .1) .0,
-    c .before .before .before .before .before .before .before .pre .0 .2)
+    let a = c .before .before .before .before .before .before .before .args in (
+      visit-facts (a .nand .now) (a .slots) (a .live) (a .q) (c .before .before .before .before .before .before .before .pre .0 .0) (a .r .c) (c .before .before .before .before .before .before .before .pre .1 .0) _ _ (sym (c .before .before .before .advance .ensures) ∙ c .before .step2 .given .1) .0,
+      c .before .before .before .before .before .before .before .pre .0 .2,
+    )
 
 returns : tie.Need-returns
 returns c =

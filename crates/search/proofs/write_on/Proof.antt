@@ -25,9 +25,10 @@ write-one-requires : tie.Need-write-one-requires
 write-one-requires c κs =
     let a = c .before .before .before .before .before .before .before .before .args in
     let p = c .before .before .before .before .before .before .before .before .pre in
-    let e = sym (c .before .before .before .before .advance .ensures) ∙ c .before .before .step2 .given .1 in
-    (visit-facts (a .nand .now) (a .slots) (a .live) (a .q) (p .0 .0) (a .w .c) (p .1 .0) _ _ e .0,
-    (visit-fits (a .nand .now) (a .slots) (a .live) (a .q) (p .0 .0) (a .area .now) (a .w) (p .1 .0) (p .1 .1 .0) (p .1 .1 .1) _ _ e, p .0 .2))
+    let e = sym (c .before .before .before .before .advance .ensures) ∙ c .before .before .step2 .given .1 in (
+      visit-facts (a .nand .now) (a .slots) (a .live) (a .q) (p .0 .0) (a .w .c) (p .1 .0) _ _ e .0,
+      (visit-fits (a .nand .now) (a .slots) (a .live) (a .q) (p .0 .0) (a .area .now) (a .w) (p .1 .0) (p .1 .1 .0) (p .1 .1 .1) _ _ e, p .0 .2),
+    )
 
 returns : tie.Need-returns
 returns c =
