@@ -9,10 +9,11 @@ use lib.IntN.{ℤ, pos, negsuc}
 use lib.ListN.{length, getD}
 use lib.Signed.{ltZ}
 use borrow.Author.Tests.{ne-eqb, not-false}
-use Rattle.lift.specs.Limits.{timeOk, loadOk}
+use Rattle.lift.specs.Limits.{timeOk, loadOk, stored}
 use Rattle.plate.specs.Plate.{noCounts}
 use Rattle.skiplist.specs.declared.Pointer.{Pointer}
 use Rattle.skiplist.specs.Skip.{none, inSlots}
+use Rattle.walk.specs.declared.Log.{Log}
 use Rattle.walk.specs.Sound.{InSlots, LogSound}
 use Rattle.search.specs.Found.{foundRows}
 use Rattle.search.specs.Answers.{SearchAnswer, searchAnswer, TallyAnswer, tallyAnswer}
@@ -86,10 +87,12 @@ module _ (nand nor : List ℕ) (s : State) (slots t1 t2 : ℕ) (k1 k2 : ℤ) (ar
   unfolding searchOutcome searchGround askedGround
   search-refused h = rw (← judged, ne-eqb n 0 h)
 
-  pub search-done : n ≡ 0 → (a : SearchAnswer) → a ≡ searchAnswer area (foundRows nand nor (s .page) (logOf s slots) (queryOf t1 t2 k1 k2))
+  -- g and the loads as the code makes them
+  pub search-done : n ≡ 0 → (g : Log) (low high : ℕ) → g ≡ logOf s slots → low ≡ stored k1 → high ≡ stored k2 → (a : SearchAnswer)
+      → a ≡ searchAnswer area (foundRows nand nor (s .page) g (record { t1 = t1; t2 = t2; k1 = low; k2 = high }))
       → a ≡ searchOutcome (world nand nor s) slots t1 t2 k1 k2 area
   unfolding searchOutcome searchGround askedGround
-  search-done z a f = rw (← judged, z) f
+  search-done z g low high e l h a f = rw (← judged, z) (f ∙ rw (e, l, h))
 
 -- ---- the returns of a tally: all loads
 
@@ -100,8 +103,8 @@ module _ (nand nor : List ℕ) (s : State) (slots t1 t2 : ℕ) (n : ℕ)
   unfolding tallyOutcome searchGround askedGround
   tally-refused h = rw (← judged, ne-eqb n 0 h)
 
-  pub tally-done : n ≡ 0 → (a : TallyAnswer)
-      → a ≡ tallyAnswer (foundRows nand nor (s .page) (logOf s slots) (queryOf t1 t2 (negsuc 49999) (pos 100000)))
+  pub tally-done : n ≡ 0 → (g : Log) → g ≡ logOf s slots → (a : TallyAnswer)
+      → a ≡ tallyAnswer (foundRows nand nor (s .page) g (record { t1 = t1; t2 = t2; k1 = 1; k2 = 150001 }))
       → a ≡ tallyOutcome (world nand nor s) slots t1 t2
-  unfolding tallyOutcome searchGround askedGround
-  tally-done z a f = rw (← judged, z) f
+  unfolding tallyOutcome searchGround askedGround stored
+  tally-done z g e a f = rw (← judged, z) (f ∙ rw e)
