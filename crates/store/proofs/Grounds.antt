@@ -71,6 +71,7 @@ pub record Standing (s : State) (nand nor slots : ℕ) : Type 0 where
   pub times : Within.Times (s .count) (s .next) (s .start)
   pub span : Within.Span (s .low) (s .high)
   pub loads : loadsOk (s .loads) ≡ true
+  pub heads : headsOk (s .heads) slots ≡ true
 
 within : (s : State) (nand nor slots : ℕ) → Within.ChipsFit nand nor slots → withinBounds s slots ≡ true → Standing s nand nor slots
 unfolding withinBounds
@@ -92,6 +93,7 @@ within s nand nor slots fit e =
       times = Within.times-within _ _ _ _ _ (Within.and-left c (d && (l && h)) e2);
       span = Within.span-within _ _ _ (Within.and-left d (l && h) e3);
       loads = Within.and-left l h e4;
+      heads = Within.and-right l h e4;
     }
 
 pub standing : (s : State) (nand nor slots : ℕ) → boundsGround s nand nor slots ≡ 0 → Standing s nand nor slots

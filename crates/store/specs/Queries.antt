@@ -13,8 +13,9 @@ use Rattle.walk.specs.declared.Log.{Log}
 use Rattle.walk.specs.declared.Query.{Query}
 use Rattle.search.specs.Found.{foundRows}
 use Rattle.search.specs.Answers.{SearchAnswer, searchAnswer, TallyAnswer, tallyAnswer}
-use Rattle.bounds.specs.Grounds.{queryGround}
+use Rattle.bounds.specs.Grounds.{ground, nandBad, norBad, queryGround}
 use Rattle.store.specs.declared.State.{State}
+use Rattle.store.specs.Bounds.{withinBounds}
 use Rattle.store.specs.World.{World}
 use Rattle.store.specs.Calls.{stateGround}
 
@@ -34,7 +35,12 @@ logOf s slots = record {
 abbrev pub queryOf : ℕ → ℕ → ℤ → ℤ → Query
 queryOf t1 t2 k1 k2 = record { t1 = t1; t2 = t2; k1 = stored k1; k2 = stored k2 }
 
--- both times, then both loads, then both ranges
+-- grounds 1 to 6, by the chips' lengths: both times, then both loads, then both ranges
+unfoldable pub askedGround : State → ℕ → ℕ → ℕ → ℕ → ℕ → ℤ → ℤ → ℕ
+askedGround s nandLength norLength slots t1 t2 k1 k2 =
+    ground 1 (nandBad nandLength slots) (ground 2 (norBad norLength) (ground 3 (not (withinBounds s slots)) (queryGround t1 t2 k1 k2)))
+
+-- the same of a world
 unfoldable pub searchGround : World → ℕ → ℕ → ℕ → ℤ → ℤ → ℕ
 searchGround w slots t1 t2 k1 k2 =
     stateGround w slots (queryGround t1 t2 k1 k2)

@@ -1,6 +1,7 @@
 // The store (document 01, "State", "Segments", "Twelve grounds"): its state by value, and the calls as methods.
 mod append;
 mod parts;
+mod queries;
 
 use flash::Page;
 use segment::Closing;

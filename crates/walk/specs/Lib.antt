@@ -1,2 +1,3 @@
 pub mod Seek
 pub mod Visit
+pub mod Sound
