@@ -1,12 +1,16 @@
 // slotlist (document 01, "Program"): lines on standard input, calls of a store of two slots, answers on standard output. What a line
 // says and how an answer is laid out is the crate lines'; what a call does is the crate store's. No contract can say what is read or
-// written, so those here say only what keeps the areas within their bounds.
+// written: the contracts here say what a line does to chips and state, and keep the areas within their bounds.
 use lines::Line;
 use search::Tally;
 use store::Answer;
 use store::State;
+ghost use mathlib.Core.Path.{_≡_};
 ghost use Prim.Native.Nat.{_+_, _*_, _≤_};
-ghost use lib.ListN.{length};
+ghost use lib.ListN.{length, take};
+ghost use Rattle.lines.specs.Forms.{lineOf};
+ghost use Rattle.store.specs.World.{world};
+ghost use Rattle.slotlist.specs.Obeyed.{obeyed};
 
 const SLOTS: u64 = 2;
 
@@ -47,7 +51,9 @@ fn say(letter: u8, number: u8) {
 }
 
 // Prints an answer's number, and hands its state back.
-fn after(letter: u8, a: Answer) -> State {
+fn after(letter: u8, a: Answer) -> State
+    ensures { λ r. ⌜ r ≡ a .state ⌝ }
+{
     say(letter, a.number);
     a.state
 }
@@ -119,11 +125,24 @@ fn search(nand: &[u8], nor: &[u8], area: &mut [u8], s: State, t1: u64, t2: u64, 
 }
 
 // Does what one line says, and prints the answer; a line of no form prints `?`.
-fn obey(nand: &mut [u8], nor: &mut [u8], area: &mut [u8], s: State, line: &[u8]) -> State {
-    match lines::parse(line) {
-        Line::Append(t, k) => after(LETTER_A, s.append(nand, nor, SLOTS, t, k, [0u8; 20])),
-        Line::Close => after(LETTER_C, s.close(nand, nor, SLOTS)),
-        Line::Drop => after(LETTER_G, s.drop(nand, nor, SLOTS)),
+fn obey(nand: &mut [u8], nor: &mut [u8], area: &mut [u8], s: State, line: &[u8]) -> State
+    ensures { λ r. ⌜ world (now (nand .exit)) (now (nor .exit)) r
+        ≡ obeyed (world (now (nand .entry)) (now (nor .entry)) s) (lineOf (now (line .entry))) ⌝ }
+{
+    let l = lines::parse(line);
+    match l {
+        Line::Append(t, k) => {
+            let a = s.append(nand, nor, SLOTS, t, k, [0u8; 20]);
+            after(LETTER_A, a)
+        }
+        Line::Close => {
+            let a = s.close(nand, nor, SLOTS);
+            after(LETTER_C, a)
+        }
+        Line::Drop => {
+            let a = s.drop(nand, nor, SLOTS);
+            after(LETTER_G, a)
+        }
         Line::Search(t1, t2, k1, k2) => {
             search(nand, nor, area, s, t1, t2, k1, k2);
             s
@@ -142,7 +161,8 @@ fn obey(nand: &mut [u8], nor: &mut [u8], area: &mut [u8], s: State, line: &[u8])
 // Obeys the line so far, and starts the next.
 fn obey_line(nand: &mut [u8], nor: &mut [u8], area: &mut [u8], s: Session) -> Session
     requires { ⌜ s .len ≤ 48 ⌝ }
-    ensures { λ r. ⌜ r .len ≤ 48 ⌝ }
+    ensures { λ r. ⌜ (r .len ≡ 0) × (world (now (nand .exit)) (now (nor .exit)) (r .state)
+        ≡ obeyed (world (now (nand .entry)) (now (nor .entry)) (s .state)) (lineOf (take (s .len) (s .line)))) ⌝ }
 {
     let state = s.state;
     let line = s.line;

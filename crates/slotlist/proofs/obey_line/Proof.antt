@@ -1,4 +1,4 @@
--- `slotlist::obey_line` hands on the bytes of the line so far.
+-- `slotlist::obey_line` meets its contract: the bytes of the line so far are handed on.
 use mathlib.Core.Path.{_≡_, sym}
 use lib.ListN.{length}
 use lib.Seq.{length-take-le}

@@ -1,0 +1,40 @@
+-- What the call that a line names leaves is what the line does: one law for each form. Assumes nothing.
+use mathlib.Core.Path.{_≡_, refl, sym, ap, _∙_}
+use mathlib.Core.List.{List}
+use Prim.Native.Nat.{ℕ}
+use lib.IntN.{ℤ}
+use lib.ListN.{replicate}
+use Rattle.lines.specs.declared.Line.{Line}
+use Rattle.lines.specs.declared.Line.the-variants.{Append, Close, Drop, Search, Tally, Other}
+use Rattle.lines.specs.Forms.{lineOf}
+use Rattle.store.specs.declared.State.{State}
+use Rattle.store.specs.World.{World, world}
+use Rattle.store.specs.Calls.{Outcome, answered, appendOutcome, closeOutcome, dropOutcome}
+use Rattle.slotlist.specs.Obeyed.{obeyed}
+
+module _ (w : World) (b : List ℕ) {l : Line} (p : l ≡ lineOf b) where
+  module _ {n : ℕ} {nand nor : List ℕ} {s r : State} (f : r ≡ s) where
+    pub append-obeyed : {t : ℕ} {k z : ℤ} → l ≡ Append t k → z ≡ k → answered n nand nor s ≡ appendOutcome w 2 t z (replicate 20 0)
+        → world nand nor r ≡ obeyed w (lineOf b)
+    unfolding obeyed
+    append-obeyed e v h = rw (f, ← p, e, ← v) (ap (λ (o : Outcome). o .world) h)
+
+    pub close-obeyed : l ≡ Close → answered n nand nor s ≡ closeOutcome w 2 → world nand nor r ≡ obeyed w (lineOf b)
+    unfolding obeyed
+    close-obeyed e h = rw (f, ← p, e) (ap (λ (o : Outcome). o .world) h)
+
+    pub drop-obeyed : l ≡ Drop → answered n nand nor s ≡ dropOutcome w 2 → world nand nor r ≡ obeyed w (lineOf b)
+    unfolding obeyed
+    drop-obeyed e h = rw (f, ← p, e) (ap (λ (o : Outcome). o .world) h)
+
+  pub search-obeyed : {t1 t2 : ℕ} {k1 k2 : ℤ} → l ≡ Search t1 t2 k1 k2 → w ≡ obeyed w (lineOf b)
+  unfolding obeyed
+  search-obeyed e = rw (← p, e)
+
+  pub tally-obeyed : {t1 t2 : ℕ} → l ≡ Tally t1 t2 → w ≡ obeyed w (lineOf b)
+  unfolding obeyed
+  tally-obeyed e = rw (← p, e)
+
+  pub other-obeyed : l ≡ Other → w ≡ obeyed w (lineOf b)
+  unfolding obeyed
+  other-obeyed e = rw (← p, e)
