@@ -1,1 +1,2 @@
 pub mod Obeying
+pub mod Typing

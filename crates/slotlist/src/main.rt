@@ -1,6 +1,6 @@
 // slotlist (document 01, "Program"): lines on standard input, calls of a store of two slots, answers on standard output. What a line
 // says and how an answer is laid out is the crate lines'; what a call does is the crate store's. No contract can say what is read or
-// written: the contracts here say what a line does to chips and state, and keep the areas within their bounds.
+// written: the contracts here say what a run of bytes does to chips and state (`feed`), and keep the areas within their bounds.
 use lines::Line;
 use search::Tally;
 use store::Answer;
@@ -10,7 +10,7 @@ ghost use Prim.Native.Nat.{_+_, _*_, _≤_};
 ghost use lib.ListN.{length, take};
 ghost use Rattle.lines.specs.Forms.{lineOf};
 ghost use Rattle.store.specs.World.{world};
-ghost use Rattle.slotlist.specs.Obeyed.{obeyed};
+ghost use Rattle.slotlist.specs.Obeyed.{obeyed, desk, kept, typed, typedAll};
 
 const SLOTS: u64 = 2;
 
@@ -178,20 +178,22 @@ fn obey_line(nand: &mut [u8], nor: &mut [u8], area: &mut [u8], s: Session) -> Se
 // The line with one byte more.
 fn pushed(mut s: Session, b: u8) -> Session
     requires { ⌜ s .len ≤ 48 ⌝ }
-    ensures { λ r. ⌜ r .len ≤ 48 ⌝ }
+    ensures { λ r. ⌜ (r .len ≤ 48) × ((r .state ≡ s .state) × (take (r .len) (r .line) ≡ kept (take (s .len) (s .line)) b)) ⌝ }
 {
     let n = s.len;
     if n < LINE_BYTES {
         s.line[n] = b;
         s.len = n + 1;
+        return s;
     }
     s
 }
 
 // One byte of the input.
-fn take(nand: &mut [u8], nor: &mut [u8], area: &mut [u8], s: Session, b: u8) -> Session
+fn accept(nand: &mut [u8], nor: &mut [u8], area: &mut [u8], s: Session, b: u8) -> Session
     requires { ⌜ s .len ≤ 48 ⌝ }
-    ensures { λ r. ⌜ r .len ≤ 48 ⌝ }
+    ensures { λ r. ⌜ (r .len ≤ 48) × (desk (now (nand .exit)) (now (nor .exit)) r
+        ≡ typed (desk (now (nand .entry)) (now (nor .entry)) s) b) ⌝ }
 {
     if b == LINE_FEED {
         return obey_line(nand, nor, area, s);
@@ -202,13 +204,14 @@ fn take(nand: &mut [u8], nor: &mut [u8], area: &mut [u8], s: Session, b: u8) -> 
 // Some bytes of the input, in order.
 fn feed(nand: &mut [u8], nor: &mut [u8], area: &mut [u8], s0: Session, bytes: &[u8]) -> Session
     requires { ⌜ s0 .len ≤ 48 ⌝ }
-    ensures { λ r. ⌜ r .len ≤ 48 ⌝ }
+    ensures { λ r. ⌜ (r .len ≤ 48) × (desk (now (nand .exit)) (now (nor .exit)) r
+        ≡ typedAll (desk (now (nand .entry)) (now (nor .entry)) s0) (now (bytes .entry))) ⌝ }
 {
     let mut s = s0;
     let mut i: usize = 0;
     while i < bytes.len() {
         let b = bytes[i];
-        s = take(nand, nor, area, s, b);
+        s = accept(nand, nor, area, s, b);
         i += 1;
     }
     s
