@@ -12,7 +12,8 @@ use Rattle.lines.specs.Forms.{timeField, loadField, appendLine, searchLi
 
 -- ---- A: a time and a load
 
-module _ (s : List ℕ) {t k : Field} {a b : Bool} (et : t ≡ timeField s 1) (ek : k ≡ loadField s 16) (ea : a ≡ isTime t) (eb : b ≡ isLoad k) where
+module _ (s : List ℕ) {t k : Field} {a b : Bool} (et : t ≡ timeField s 1) (ek : k ≡ loadField s 16) (ea : a ≡ isTime t)
+    (eb : b ≡ isLoad k) where
   pub append-read : {time : ℕ} {load : ℤ} → (a && b) ≡ true → time ≡ valueOf t → load ≡ loadIn k → Append time load ≡ appendLine s
   unfolding appendLine
   append-read h u v = rw (u, v, ← et, ← ek, ← ea, ← eb, h)
@@ -23,7 +24,8 @@ module _ (s : List ℕ) {t k : Field} {a b : Bool} (et : t ≡ timeField s 1) (e
 
 -- ---- T: two times
 
-module _ (s : List ℕ) {t1 t2 : Field} {a b : Bool} (e1 : t1 ≡ timeField s 1) (e2 : t2 ≡ timeField s 16) (ea : a ≡ isTime t1) (eb : b ≡ isTime t2) where
+module _ (s : List ℕ) {t1 t2 : Field} {a b : Bool} (e1 : t1 ≡ timeField s 1) (e2 : t2 ≡ timeField s 16) (ea : a ≡ isTime t1)
+    (eb : b ≡ isTime t2) where
   pub tally-read : {u v : ℕ} → (a && b) ≡ true → u ≡ valueOf t1 → v ≡ valueOf t2 → Tally u v ≡ tallyLine s
   unfolding tallyLine
   tally-read h u v = rw (u, v, ← e1, ← e2, ← ea, ← eb, h)
@@ -37,7 +39,8 @@ module _ (s : List ℕ) {t1 t2 : Field} {a b : Bool} (e1 : t1 ≡ timeField s 1)
 module _ (s : List ℕ) {t1 t2 k1 k2 : Field} {a b c d : Bool}
     (e1 : t1 ≡ timeField s 1) (e2 : t2 ≡ timeField s 16) (e3 : k1 ≡ loadField s 31) (e4 : k2 ≡ loadField s 39)
     (ea : a ≡ isTime t1) (eb : b ≡ isTime t2) (ec : c ≡ isLoad k1) (ed : d ≡ isLoad k2) where
-  pub search-read : {x y : ℕ} {z w : ℤ} → ((a && b) && (c && d)) ≡ true → x ≡ valueOf t1 → y ≡ valueOf t2 → z ≡ loadIn k1 → w ≡ loadIn k2
+  pub search-read : {x y : ℕ} {z w : ℤ} → ((a && b) && (c && d)) ≡ true → x ≡ valueOf t1 → y ≡ valueOf t2 → z ≡ loadIn k1
+      → w ≡ loadIn k2
       → Search x y z w ≡ searchLine s
   unfolding searchLine
   search-read h x y z w = rw (x, y, z, w, ← e1, ← e2, ← e3, ← e4, ← ea, ← eb, ← ec, ← ed, h)

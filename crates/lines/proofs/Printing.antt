@@ -32,7 +32,8 @@ splice-last s at l b k e h =
     let t : take at (set s k b) ≡ take at s = take-set-le at s k b (omega arith) in
     let m : k < length (set s k b) = simp length-set (omega arith) in
     let d : drop k (set s k b) ≡ b ∷ drop (suc k) s =
-    drop-cons (set s k b) k 0 m ∙ ap₂ (λ (x : ℕ) (y : List ℕ). x ∷ y) (getD-set-same s k b 0 h) (drop-set-lt (suc k) s k b (omega arith)) in
+    drop-cons (set s k b) k 0 m ∙ ap₂ (λ (x : ℕ) (y : List ℕ). x ∷ y) (getD-set-same s k b 0 h)
+    (drop-set-lt (suc k) s k b (omega arith)) in
     rw (e, n, t, d, ← append-assoc (take at s) l (b ∷ [])) (sym (append-snoc (take at s ++ l) b (drop (suc k) s)))
 
 -- a turn of `put_number`
@@ -65,7 +66,8 @@ unfolding countsBytes
 count-step s ns i h k =
     let l : length (countBytes (getD ns i 0)) ≡ 7 = length-columns 7 _ in
     rw (add-one i, drop-cons ns i 0)
-    (splice-next s (4 + 7 * i) (countBytes (getD ns i 0)) (4 + 7 * suc i) (countsBytes (drop (suc i) ns)) (omega arith) (omega arith))
+    (splice-next s (4 + 7 * i) (countBytes (getD ns i 0)) (4 + 7 * suc i) (countsBytes (drop (suc i) ns)) (omega arith)
+    (omega arith))
 
 pub counts-done : (s t ns : List ℕ) (at i : ℕ) → length ns ≡ i → splice s at (countsBytes (drop i ns)) ≡ t → s ≡ t
 unfolding countsBytes
@@ -74,9 +76,11 @@ counts-done s t ns at i h e =
     sym (splice-none s at (countsBytes (drop i ns)) (rw d)) ∙ e
 
 -- a load printed from the number it is stored as: its sign and its size
-pub load-printed : (code : ℕ) → columns 8 (ltb code 50001) (cond (ltb code 50001) (50001 - code) (code - 50001)) ≡ loadBytes (loadOf code)
+pub load-printed : (code : ℕ) → columns 8 (ltb code 50001) (cond (ltb code 50001) (50001 - code) (code - 50001))
+    ≡ loadBytes (loadOf code)
 unfolding loadBytes
-load-printed code = D.by-sign code 50001 (λ z. columns 8 (ltb code 50001) (cond (ltb code 50001) (50001 - code) (code - 50001)) ≡ loadBytes z)
+load-printed code = D.by-sign code 50001 (λ z. columns 8 (ltb code 50001) (cond (ltb code 50001) (50001 - code) (code - 50001))
+    ≡ loadBytes z)
     (λ n e. let t : ltb code 50001 ≡ false = le-ltb code 50001 (omega arith) in
     let v : code - 50001 ≡ n = omega arith in rw (t, v))
     (λ n e. let t : ltb code 50001 ≡ true = lt-ltb code 50001 (omega arith) in
@@ -94,7 +98,8 @@ head-printed s b p h =
 
 -- a time, and a load after it
 pub lift-printed : (s : List ℕ) (time code : ℕ) → 23 ≤ length s
-    → splice (splice s 0 (columns 15 false time)) 15 (columns 8 (ltb code 50001) (cond (ltb code 50001) (50001 - code) (code - 50001)))
+    → splice (splice s 0 (columns 15 false time)) 15
+    (columns 8 (ltb code 50001) (cond (ltb code 50001) (50001 - code) (code - 50001)))
     ≡ splice s 0 (columns 15 false time ++ loadBytes (loadOf code))
 lift-printed s time code h =
     let l : length (columns 15 false time) ≡ 15 = length-columns 15 _ in

@@ -35,14 +35,16 @@ digit-read f d h =
 blank : (w n : ℕ) → fieldIn (columnsOf w (record { rest = n; digit = false; minus = false })) ≡ Spaces
 unfolding columnsOf readFrom readOn
 blank zero n = refl
-blank (suc w) n = read-last Spaces (columnsOf w (record { rest = n; digit = false; minus = false })) 32 ∙ ap (λ f. readOn f 32) (blank w n)
+blank (suc w) n = read-last Spaces (columnsOf w (record { rest = n; digit = false; minus = false })) 32
+    ∙ ap (λ f. readOn f 32) (blank w n)
 
 -- what stands before the digits
 abbrev lead : Bool → Field
 lead true = Minus
 lead false = Spaces
 
-before : (minus : Bool) (w n : ℕ) → cond minus 1 0 ≤ w → fieldIn (columnsOf w (record { rest = n; digit = false; minus = minus })) ≡ lead minus
+before : (minus : Bool) (w n : ℕ) → cond minus 1 0 ≤ w → fieldIn (columnsOf w (record { rest = n; digit = false; minus = minus }))
+    ≡ lead minus
 unfolding columnsOf readFrom readOn
 before false w n h = blank w n
 before true zero n h = absurd (omega arith)
@@ -58,7 +60,8 @@ some zero n h k = omega (arith, rw pow-zero at k)
 some (suc j) n h k = omega arith
 
 -- j digits and the sign have room in w columns
-pub reads-back : (w j n : ℕ) (minus : Bool) → 0 < j → n < 10 ^ j → j + cond minus 1 0 ≤ w → fieldIn (columns w minus n) ≡ Digits minus n
+pub reads-back : (w j n : ℕ) (minus : Bool) → 0 < j → n < 10 ^ j → j + cond minus 1 0 ≤ w → fieldIn (columns w minus n)
+    ≡ Digits minus n
 unfolding columnsOf
 reads-back zero j n minus z h k = absurd (omega arith)
 reads-back (suc w) zero n minus z h k = absurd (omega arith)

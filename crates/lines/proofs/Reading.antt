@@ -1,5 +1,5 @@
--- The turns of a field's reading, and the tests of a line's form. The idea: what is left to read from here gives what the whole gives,
--- and n columns make a number below 10 ^ n. Assumes nothing.
+-- The turns of a field's reading, and the tests of a line's form. The idea: what is left to read from here gives what the
+-- whole gives, and n columns make a number below 10 ^ n. Assumes nothing.
 use mathlib.Core.Path.{_≡_, refl, sym, ap, _∙_}
 use mathlib.Core.Bool.{Bool, true, false, cond, not, _&&_}
 use mathlib.Core.List.{List, [], _∷_, _++_}
@@ -107,7 +107,8 @@ read-bound f b width left h k l =
 pub read-none : (width : ℕ) → 0 < 10 ^ (width - width)
 read-none width = let e : width - width ≡ 0 = omega arith in rw (e, pow-zero) (omega arith)
 
-pub read-all : (s : List ℕ) (to left width : ℕ) (f g : Field) → left ≤ 0 → readFrom f (part s to left) ≡ g → valueOf f < 10 ^ (width - left)
+pub read-all : (s : List ℕ) (to left width : ℕ) (f g : Field) → left ≤ 0 → readFrom f (part s to left) ≡ g
+    → valueOf f < 10 ^ (width - left)
     → (f ≡ g) × (valueOf f < 10 ^ width)
 unfolding readFrom part
 read-all s to left width f g h e l =

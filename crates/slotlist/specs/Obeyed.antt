@@ -1,5 +1,5 @@
--- What a line does to the chips and the state (document 01, "Program"): "A appends (notes 0), C closes, G drops, Q searches, T tallies",
--- with S = 2. Assumes nothing.
+-- What a line, and a run of bytes, does to the chips and the state (document 01, "Program"), with S = 2: "A appends (notes 0),
+-- C closes, G drops, Q searches .., T tallies". Assumes nothing.
 use mathlib.Core.Bool.{cond}
 use mathlib.Core.List.{List, [], _∷_, _++_}
 use Prim.Native.Nat.{ℕ}

@@ -1,6 +1,7 @@
-// slotlist (document 01, "Program"): lines on standard input, calls of a store of two slots, answers on standard output. What a line
-// says and how an answer is laid out is the crate lines'; what a call does is the crate store's. No contract can say what is read or
-// written: the contracts here say what a run of bytes does to chips and state (`feed`), and keep the areas within their bounds.
+// slotlist (document 01, "Program"): lines on standard input, calls of a store of two slots, answers on standard output.
+// What a line says and how an answer is laid out is the crate lines'; what a call does is the crate store's. No contract can say
+// what is read or written: the contracts here say what a run of bytes does to chips and state (`feed`), and keep the areas
+// within their bounds.
 use lines::Line;
 use search::Tally;
 use store::Answer;

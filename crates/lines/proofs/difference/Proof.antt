@@ -15,12 +15,22 @@ cast-result-2 c = search needs
 
 sub-result : tie.Need-sub-result
 sub-result c =
-    rw (toZ-pos w32 (c .args .a) (omega arith), toZ-pos w32 (c .args .b) (omega arith), Reading.difference (c .args .a) (c .args .b))
+    rw (
+      toZ-pos w32 (c .args .a) (omega arith),
+      toZ-pos w32 (c .args .b) (omega arith),
+      Reading.difference (c .args .a)
+          (c .args .b),
+    )
     (Reading.difference-fits _ _ (c .pre .0) (c .pre .1))
 
 returns : tie.Need-returns
 returns c =
-    rw (toZ-pos w32 (c .args .a) (omega arith), toZ-pos w32 (c .args .b) (omega arith), Reading.difference (c .args .a) (c .args .b))
+    rw (
+      toZ-pos w32 (c .args .a) (omega arith),
+      toZ-pos w32 (c .args .b) (omega arith),
+      Reading.difference (c .args .a)
+          (c .args .b),
+    )
     (toZ-ofZ w32 _ (Reading.difference-fits _ _ (c .pre .0) (c .pre .1)))
 
 pub difference-spec : {M : Type 1} → statement M

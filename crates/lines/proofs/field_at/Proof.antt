@@ -12,7 +12,8 @@ use Rattle.lines.proofs.field_at.Tie as tie
 
 abbrev Inv-loop : tie.InvT-loop
 Inv-loop s at width f₀ to₀ left₀ f to left =
-    (to + left ≤ length s) × ((left ≤ width) × ((readFrom f (part s to left) ≡ fieldIn (part s at width)) × (valueOf f < 10 ^ (width - left))))
+    (to + left ≤ length s) × ((left ≤ width) × ((readFrom f (part s to left) ≡ fieldIn (part s at width))
+    × (valueOf f < 10 ^ (width - left))))
 
 abbrev μ-loop : tie.MeasureT-loop
 μ-loop s at width f₀ to₀ left₀ f to left = left

@@ -23,7 +23,8 @@ difference-requires c κs = search needs
 returns : tie.Need-returns
 returns c =
     toZ-ofZ w32 (c .difference .result) (record { sfits = c .difference .ok }) ∙ c .difference .ensures
-    ∙ load-below (c .before .before .before .before .args .f) _ _ (c .before .before .has-minus .ensures) (c .before .if1 .taken) (c .before .before .before .time-of .ensures)
+    ∙ load-below (c .before .before .before .before .args .f) _ _ (c .before .before .has-minus .ensures) (c .before .if1 .taken)
+    (c .before .before .before .time-of .ensures)
 
 difference-requires-2 : tie.Need-difference-requires-2
 difference-requires-2 c κs = search needs
@@ -31,7 +32,8 @@ difference-requires-2 c κs = search needs
 returns-2 : tie.Need-returns-2
 returns-2 c =
     toZ-ofZ w32 (c .difference2 .result) (record { sfits = c .difference2 .ok }) ∙ c .difference2 .ensures
-    ∙ load-above (c .before .before .before .before .args .f) _ _ (c .before .before .has-minus .ensures) (c .before .if1 .left) (c .before .before .before .time-of .ensures)
+    ∙ load-above (c .before .before .before .before .args .f) _ _ (c .before .before .has-minus .ensures) (c .before .if1 .left)
+    (c .before .before .before .time-of .ensures)
 
 pub load-of-spec : {M : Type 1} → statement M
 load-of-spec =

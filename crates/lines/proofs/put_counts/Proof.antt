@@ -1,4 +1,4 @@
--- `lines::put_counts` meets its contract. The invariant: the counts that are left, written, give what the whole gives. Assumes nothing.
+-- `lines::put_counts` meets its contract. The invariant: the counts that are left, written, give what the whole gives.
 use mathlib.Core.Path.{_≡_, refl, sym, ap, _∙_}
 use Prim.Native.Nat.{_+_, _-_, _*_, _≤_, _<_}
 use lib.ListN.{length, drop}

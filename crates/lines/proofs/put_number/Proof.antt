@@ -1,4 +1,4 @@
--- `lines::put_number` meets its contract. The invariant: what is left to write, written, gives what the whole gives. Assumes nothing.
+-- `lines::put_number` meets its contract. The invariant: what is left to write, written, gives what the whole gives.
 use mathlib.Core.Path.{_≡_, refl, sym, _∙_}
 use Prim.Native.Nat.{_+_, _-_, _≤_, _<_}
 use lib.ListN.{length, length-set}

@@ -28,7 +28,8 @@ with-minus-requires : tie.Need-with-minus-requires
 with-minus-requires c κs = search needs
 
 returns-3 : tie.Need-returns-3
-returns-3 c = read-minus _ _ _ (c .before .before .before .if1 .left) (c .before .before .if2 .left) (c .before .if3 .taken) (c .with-minus .ensures)
+returns-3 c = read-minus _ _ _ (c .before .before .before .if1 .left) (c .before .before .if2 .left) (c .before .if3 .taken)
+    (c .with-minus .ensures)
 
 returns-4 : tie.Need-returns-4
 returns-4 c = read-other _ _ _ (c .before .before .if1 .left) (c .before .if2 .left) (c .if3 .left) refl

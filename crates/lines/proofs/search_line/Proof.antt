@@ -48,9 +48,12 @@ returns : tie.Need-returns
 returns c =
     let k = c .before .before .before .before .before in
     let f = k .before .before .before .before in
-    search-read _ (f .before .before .before .field-at .ensures .0) (f .before .before .field-at2 .ensures .0) (f .before .field-at3 .ensures .0) (f .field-at4 .ensures .0)
-    (k .before .before .before .is-time .ensures) (k .before .before .is-time2 .ensures) (k .before .is-load .ensures) (k .is-load2 .ensures)
-    (c .before .before .before .before .if1 .taken) (c .before .before .before .time-of .ensures) (c .before .before .time-of2 .ensures)
+    search-read _ (f .before .before .before .field-at .ensures .0) (f .before .before .field-at2 .ensures .0)
+    (f .before .field-at3 .ensures .0) (f .field-at4 .ensures .0)
+    (k .before .before .before .is-time .ensures) (k .before .before .is-time2 .ensures) (k .before .is-load .ensures)
+    (k .is-load2 .ensures)
+    (c .before .before .before .before .if1 .taken) (c .before .before .before .time-of .ensures)
+    (c .before .before .time-of2 .ensures)
     (toZ-ofZ w32 (c .before .load-of .result) (record { sfits = c .before .load-of .ok }) ∙ c .before .load-of .ensures)
     (toZ-ofZ w32 (c .load-of2 .result) (record { sfits = c .load-of2 .ok }) ∙ c .load-of2 .ensures)
 
@@ -58,8 +61,10 @@ returns-2 : tie.Need-returns-2
 returns-2 c =
     let k = c .before in
     let f = k .before .before .before .before in
-    search-other _ (f .before .before .before .field-at .ensures .0) (f .before .before .field-at2 .ensures .0) (f .before .field-at3 .ensures .0) (f .field-at4 .ensures .0)
-    (k .before .before .before .is-time .ensures) (k .before .before .is-time2 .ensures) (k .before .is-load .ensures) (k .is-load2 .ensures) (c .if1 .left)
+    search-other _ (f .before .before .before .field-at .ensures .0) (f .before .before .field-at2 .ensures .0)
+    (f .before .field-at3 .ensures .0) (f .field-at4 .ensures .0)
+    (k .before .before .before .is-time .ensures) (k .before .before .is-time2 .ensures) (k .before .is-load .ensures)
+    (k .is-load2 .ensures) (c .if1 .left)
 
 pub search-line-spec : {M : Type 1} → statement M
 search-line-spec =

@@ -27,7 +27,8 @@ returns : tie.Need-returns
 returns c =
     let k = c .before .before .before in
     tally-read _ (k .before .before .before .field-at .ensures .0) (k .before .before .field-at2 .ensures .0)
-    (k .before .is-time .ensures) (k .is-time2 .ensures) (c .before .before .if1 .taken) (c .before .time-of .ensures) (c .time-of2 .ensures)
+    (k .before .is-time .ensures) (k .is-time2 .ensures) (c .before .before .if1 .taken) (c .before .time-of .ensures)
+    (c .time-of2 .ensures)
 
 returns-2 : tie.Need-returns-2
 returns-2 c =

@@ -21,8 +21,11 @@ same-length-3 c = search needs
 
 returns : tie.Need-returns
 returns c =
-    let e = c .before .before .before .before .before .before .obey-line .ensures in
-    (omega (arith, e .0), line-ended _ _ _ _ (c .before .before .before .before .before .before .obey-line .result) (c .before .before .before .before .before .before .before .before .before .before .if1 .taken) (e .0) (e .1))
+    let e = c .before .before .before .before .before .before .obey-line .ensures in (
+      omega (arith, e .0),
+      line-ended _ _ _ _ (c .before .before .before .before .before .before .obey-line .result)
+          (c .before .before .before .before .before .before .before .before .before .before .if1 .taken) (e .0) (e .1),
+    )
 
 pushed-requires : tie.Need-pushed-requires
 pushed-requires c κs = search needs

@@ -43,7 +43,17 @@ loop-again c =
         l .1 .0,
         (
           a .ensures .0,
-          (a .kept .0 ∙ m .0, (a .kept .1 .0 ∙ m .1 .0, (a .kept .1 .1 .0 ∙ m .1 .1 .0, typed-step _ _ _ _ t (a .ensures .1) ∙ m .1 .1 .1))),
+          (
+            a .kept .0 ∙ m .0,
+            (
+              a .kept .1 .0 ∙ m .1 .0,
+              (
+                a .kept .1 .1 .0 ∙ m .1 .1 .0,
+                typed-step _ _ _ _ t (a .ensures .1)
+                    ∙ m .1 .1 .1,
+              ),
+            ),
+          ),
         ),
       ),
     )

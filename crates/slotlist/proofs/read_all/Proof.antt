@@ -8,7 +8,8 @@ use Rattle.slotlist.proofs.read_all.Statement.{statement}
 use Rattle.slotlist.proofs.read_all.Tie as tie
 
 abbrev Inv-loop : tie.InvT-loop
-Inv-loop nand₀ nor₀ area₀ s₀ turns₀ nand nor area s turns = (s .len ≤ 48) × ((length nand ≡ length nand₀) × ((length nor ≡ length nor₀) × (length area ≡ length area₀)))
+Inv-loop nand₀ nor₀ area₀ s₀ turns₀ nand nor area s turns =
+    (s .len ≤ 48) × ((length nand ≡ length nand₀) × ((length nor ≡ length nor₀) × (length area ≡ length area₀)))
 
 abbrev μ-loop : tie.MeasureT-loop
 μ-loop nand₀ nor₀ area₀ s₀ turns₀ nand nor area s turns = turns
