@@ -20,7 +20,8 @@ pub record SearchAnswer : Type 0 where
   pub count : ℕ
   pub area : List ℕ
 
--- "10. Damage is met." "12. The lifts found outnumber the whole 32-byte rows of the result area." "the rows go out as records ..; the rest
+-- "10. Damage is met." "12. The lifts found outnumber the whole 32-byte rows of the result area." "the rows go out as records
+-- ..; the rest
 -- of the result area keeps its bytes"
 unfoldable pub searchAnswer : List ℕ → Option (List (List ℕ)) → SearchAnswer
 searchAnswer area none = record { number = 10; count = 0; area = area }

@@ -27,7 +27,8 @@ fn tally_set(lifts: &[u8], tail: &[u8], g: Records, set: Bits, counts: [u64; 21]
     requires { ⌜ Recorded (now lifts) (now tail) g ⌝ }
     requires { ⌜ Below (g .count) (members (set .words)) ⌝ }
     requires { ⌜ NoneAbove (2 ^ 63) counts ⌝ }
-    ensures { λ r. ⌜ r ≡ countedAll counts (map (codeIn (now (lifts .entry)) (now (tail .entry)) (g .first)) (members (set .words))) ⌝ }
+    ensures { λ r. ⌜ r ≡ countedAll counts
+        (map (codeIn (now (lifts .entry)) (now (tail .entry)) (g .first)) (members (set .words))) ⌝ }
 {
     let mut rest = set;
     let mut n = counts;

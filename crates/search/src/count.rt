@@ -24,9 +24,10 @@ fn counted_with(total: u64, m: Sweep) -> Counted
     if good {
         let set = m.set;
         let n = set.count() as u64;
+        let more = total + n;
         return Counted {
             good: true,
-            total: total + n,
+            total: more,
         };
     }
     Counted {

@@ -1,4 +1,4 @@
-// The rows of a search (document 01, "Search"), written from the end of the count backwards: the open segment's, then each older one's.
+// The rows of a search (document 01, "Search"), written from the end of the count backwards: the open segment's first.
 use crate::Writing;
 use bitset::Bits;
 use sweep::Records;

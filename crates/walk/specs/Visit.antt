@@ -24,7 +24,8 @@ use Rattle.walk.specs.Seek.{headerAt}
 
 -- ---- from segment to segment
 
--- "A closed segment is passed over if its load span misses the range or, for equal loads, if some hash bit is clear in all sections."
+-- "A closed segment is passed over if its load span misses the range or, for equal loads, if some hash bit is clear in all
+-- sections."
 unfoldable pub isPassed : List ℕ → ℕ → Header → Query → Bool
 isPassed nand slot h q =
     (ltb (h .high) (q .k1) || ltb (q .k2) (h .low))

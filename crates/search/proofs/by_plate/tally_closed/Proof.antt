@@ -22,7 +22,8 @@ tally-on-requires c κs =
 
 returns : tie.Need-returns Inv-loop μ-loop
 returns c =
-    tally-over _ _ _ _ _ _ _ (c .before .before .before .loop .inv) _ (c .before .before .tally-on .ensures) (c .before .if1 .taken)
+    tally-over _ _ _ _ _ _ _ (c .before .before .before .loop .inv) _ (c .before .before .tally-on .ensures)
+    (c .before .if1 .taken)
 
 loop-less : tie.Need-loop-less Inv-loop μ-loop
 loop-less c = c .before .tally-on .ensures .falls (c .if1 .left)

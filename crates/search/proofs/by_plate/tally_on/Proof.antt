@@ -28,29 +28,35 @@ tally-one-requires : tie.Need-tally-one-requires
 tally-one-requires c κs =
     let a = c .before .before .before .before .before .before .before .before .args in
     let p = c .before .before .before .before .before .before .before .before .pre in (
-      visit-facts (a .nand .now) (a .slots) (a .live) (a .q) (p .0 .0) (a .r .c) (p .1 .0) _ _ (sym (c .before .before .before .before .advance .ensures) ∙ c .before .before .step2 .given .1) .0,
+      visit-facts (a .nand .now) (a .slots) (a .live) (a .q) (p .0 .0) (a .r .c) (p .1 .0) _ _
+          (sym (c .before .before .before .before .advance .ensures) ∙ c .before .before .step2 .given .1) .0,
       p .1 .1 .1,
     )
 
 returns : tie.Need-returns
 returns c =
     let p = c .before .before .before .before .before .before .pre in
-    tally-end _ _ _ _ (p .0 .0) _ (p .1 .0) (p .1 .1 .0 .0) (p .1 .1 .0 .1) (sym (c .before .before .advance .ensures) ∙ c .enum-told .given .1)
+    tally-end _ _ _ _ (p .0 .0) _ (p .1 .0) (p .1 .1 .0 .0) (p .1 .1 .0 .1)
+    (sym (c .before .before .advance .ensures) ∙ c .enum-told .given .1)
 
 returns-2 : tie.Need-returns-2
 returns-2 c =
     let p = c .before .before .before .before .before .before .before .pre in
-    tally-damage _ _ _ _ (p .0 .0) _ (p .1 .0) (p .1 .1 .0 .0) (p .1 .1 .0 .1) (sym (c .before .before .before .advance .ensures) ∙ c .before .enum-told2 .given .1) _ (c .no-plates .ensures)
+    tally-damage _ _ _ _ (p .0 .0) _ (p .1 .0) (p .1 .1 .0 .0) (p .1 .1 .0 .1)
+    (sym (c .before .before .before .advance .ensures) ∙ c .before .enum-told2 .given .1) _ (c .no-plates .ensures)
 
 returns-3 : tie.Need-returns-3
 returns-3 c =
     let p = c .before .before .before .before .before .before .before .pre in
-    tally-pass _ _ _ _ (p .0 .0) _ (p .1 .0) (p .1 .1 .0 .0) (p .1 .1 .0 .1) _ (sym (c .before .before .before .advance .ensures) ∙ c .before .step .given .1)
+    tally-pass _ _ _ _ (p .0 .0) _ (p .1 .0) (p .1 .1 .0 .0) (p .1 .1 .0 .1) _
+    (sym (c .before .before .before .advance .ensures) ∙ c .before .step .given .1)
 
 returns-4 : tie.Need-returns-4
 returns-4 c =
     let p = c .before .before .before .before .before .before .before .before .before .pre in
-    tally-visit _ _ _ _ (p .0 .0) _ (p .1 .0) (p .1 .1 .0 .0) (p .1 .1 .0 .1) _ _ (sym (c .before .before .before .before .before .advance .ensures) ∙ c .before .before .before .step2 .given .1) _ (c .tally-one .ensures)
+    tally-visit _ _ _ _ (p .0 .0) _ (p .1 .0) (p .1 .1 .0 .0) (p .1 .1 .0 .1) _ _
+    (sym (c .before .before .before .before .before .advance .ensures) ∙ c .before .before .before .step2 .given .1) _
+    (c .tally-one .ensures)
 
 pub tally-on-spec : {M : Type 1} → statement M
 tally-on-spec =

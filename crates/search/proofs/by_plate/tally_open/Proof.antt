@@ -20,7 +20,8 @@ no-counts-requires c κs = search needs
 returns : tie.Need-returns
 unfolding countedAll
 returns c =
-    ap (λ (l : List ℕ). record { good = true; counts = l }) (c .before .before .no-counts .ensures) ∙ sym (ap (tallyOf _) (open-none _ _ _ _ _ (c .if1 .taken)))
+    ap (λ (l : List ℕ). record { good = true; counts = l }) (c .before .before .no-counts .ensures) ∙ sym
+    (ap (tallyOf _) (open-none _ _ _ _ _ (c .if1 .taken)))
 
 open-matches-requires : tie.Need-open-matches-requires
 open-matches-requires c κs = search needs
@@ -31,7 +32,8 @@ no-plates-requires c κs = search needs
 returns-2 : tie.Need-returns-2
 returns-2 c =
     c .no-plates .ensures
-    ∙ sym (ap (tallyOf _) (open-damage _ _ _ _ _ (c .before .before .before .if1 .left) _ (c .before .before .open-matches .ensures) (not-true _ (c .before .if2 .taken))))
+    ∙ sym (ap (tallyOf _) (open-damage _ _ _ _ _ (c .before .before .before .if1 .left) _
+    (c .before .before .open-matches .ensures) (not-true _ (c .before .if2 .taken))))
 
 open-lifts-requires : tie.Need-open-lifts-requires
 open-lifts-requires c κs = search needs
@@ -41,16 +43,22 @@ open-records-requires c κs = search needs
 
 tally-set-requires : tie.Need-tally-set-requires
 tally-set-requires c κs =
-    let p = open-placed _ _ _ _ (c .before .before .before .before .before .before .before .before .before .before .before .args .q) (c .before .before .before .before .before .before .before .before .before .before .before .pre .0) (c .before .before .before .before .before .before .before .before .before .before .before .pre .1) (c .before .before .before .before .before .if1 .left) _ (c .before .before .before .before .open-matches .ensures)
+    let m = c .before .before .before .before in
+    let s = m .before .before .before .before .before .before .before in
+    let p =
+    open-placed _ _ _ _ (s .args .q) (s .pre .0) (s .pre .1) (m .before .if1 .left) _ (m .open-matches .ensures)
     _ (c .before .open-lifts .ensures) _ (c .open-records .ensures) in
-    (p .recorded, (p .below, λ i. rw (c .before .before .before .before .before .before .before .no-counts .ensures) (omega (arith, none-zero i))))
+    (p .recorded, (p .below, λ i. rw (m .before .before .before .no-counts .ensures) (omega (arith, none-zero i))))
 
 returns-3 : tie.Need-returns-3
 returns-3 c =
-    let p = open-placed _ _ _ _ _ (c .before .before .before .before .before .before .before .before .before .before .before .before .pre .0) (c .before .before .before .before .before .before .before .before .before .before .before .before .pre .1) (c .before .before .before .before .before .before .if1 .left) _ (c .before .before .before .before .before .open-matches .ensures)
+    let m = c .before .before .before .before .before in
+    let s = m .before .before .before .before .before .before .before in
+    let p =
+    open-placed _ _ _ _ _ (s .pre .0) (s .pre .1) (m .before .if1 .left) _ (m .open-matches .ensures)
     _ (c .before .before .open-lifts .ensures) _ (c .before .open-records .ensures) in
-    tally-some _ _ _ _ _ (c .before .before .before .before .before .before .before .before .no-counts .ensures) (c .tally-set .ensures) (placed-codes _ _ _ _ _ p)
-    (open-good _ _ _ _ _ (c .before .before .before .before .before .before .if1 .left) _ (c .before .before .before .before .before .open-matches .ensures) (not-false _ (c .before .before .before .before .if2 .left)))
+    tally-some _ _ _ _ _ (m .before .before .before .no-counts .ensures) (c .tally-set .ensures) (placed-codes _ _ _ _ _ p)
+    (open-good _ _ _ _ _ (m .before .if1 .left) _ (m .open-matches .ensures) (not-false _ (c .before .before .before .before .if2 .left)))
 
 pub tally-open-spec : {M : Type 1} → statement M
 tally-open-spec =

@@ -13,7 +13,8 @@ use Rattle.search.proofs.by_plate.tally_set.Tie as tie
 
 abbrev Inv-loop : tie.InvT-loop
 Inv-loop lifts tail g rest₀ n₀ rest n =
-    SetTally (codeIn lifts tail (g .first)) (g .count) (countedAll n₀ (map (codeIn lifts tail (g .first)) (members (rest₀ .words)))) rest n
+    SetTally (codeIn lifts tail (g .first)) (g .count)
+    (countedAll n₀ (map (codeIn lifts tail (g .first)) (members (rest₀ .words)))) rest n
 
 abbrev μ-loop : tie.MeasureT-loop
 μ-loop lifts tail g rest₀ n₀ rest n = length (members (rest .words))
@@ -34,7 +35,8 @@ code-in-requires c κs =
 
 counted-requires : tie.Need-counted-requires Inv-loop μ-loop
 counted-requires c κs =
-    set-room _ _ _ _ _ (c .before .before .before .loop .inv) _ (c .before .before .next .ensures .0) (not-false _ (c .before .if1 .left)) _
+    set-room _ _ _ _ _ (c .before .before .before .loop .inv) _ (c .before .before .next .ensures .0)
+    (not-false _ (c .before .if1 .left)) _
 
 loop-less : tie.Need-loop-less Inv-loop μ-loop
 loop-less c =
@@ -42,7 +44,9 @@ loop-less c =
 
 loop-again : tie.Need-loop-again Inv-loop μ-loop
 loop-again c =
-    set-more _ _ _ _ _ (c .before .before .before .before .before .loop .inv) _ (c .before .before .before .before .next .ensures .0) (not-false _ (c .before .before .before .if1 .left)) _ (c .before .before .code-in .ensures) _ (c .before .counted .ensures)
+    set-more _ _ _ _ _ (c .before .before .before .before .before .loop .inv) _
+    (c .before .before .before .before .next .ensures .0) (not-false _ (c .before .before .before .if1 .left)) _
+    (c .before .before .code-in .ensures) _ (c .before .counted .ensures)
 
 pub tally-set-spec : {M : Type 1} → statement M
 tally-set-spec =

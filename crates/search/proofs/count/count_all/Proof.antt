@@ -19,7 +19,8 @@ count-closed-requires c κs =
       (
         p .0 .nand-size,
         p .1 .0 .1,
-        count-all-few (a .nand .now) (a .nor .now) (a .page .now) (a .g) (a .q) (a .c) (p .0 .nand-size) (p .1 .1) _ (c .before .before .before .count-open .ensures),
+        count-all-few (a .nand .now) (a .nor .now) (a .page .now) (a .g) (a .q) (a .c) (p .0 .nand-size) (p .1 .1) _
+            (c .before .before .before .count-open .ensures),
       ),
       p .1 .1 .sound,
     )
@@ -27,7 +28,8 @@ count-closed-requires c κs =
 returns-2 : tie.Need-returns-2
 returns-2 c =
     let p = c .before .before .before .before .before .before .before .before .pre in
-    count-all-some _ _ _ _ _ _ (p .0 .nand-size) (p .1 .1) _ (c .before .before .before .before .count-open .ensures) (c .before .if1 .left) _ (c .count-closed .ensures)
+    count-all-some _ _ _ _ _ _ (p .0 .nand-size) (p .1 .1) _ (c .before .before .before .before .count-open .ensures)
+    (c .before .if1 .left) _ (c .count-closed .ensures)
 
 pub count-all-spec : {M : Type 1} → statement M
 count-all-spec = tie.close (tie.spec count-open-requires returns count-closed-requires returns-2)

@@ -23,7 +23,8 @@ count-on-requires c κs =
 
 returns : tie.Need-returns Inv-loop μ-loop
 returns c =
-    count-over _ _ _ _ _ _ _ (c .before .before .before .loop .inv) _ (c .before .before .count-on .ensures) (c .before .if1 .taken)
+    count-over _ _ _ _ _ _ _ (c .before .before .before .loop .inv) _ (c .before .before .count-on .ensures)
+    (c .before .if1 .taken)
 
 loop-less : tie.Need-loop-less Inv-loop μ-loop
 loop-less c = c .before .count-on .ensures .falls (c .if1 .left)

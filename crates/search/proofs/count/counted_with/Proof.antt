@@ -10,8 +10,8 @@ count-requires c κs = search needs
 cast-n : tie.Need-cast-n
 cast-n c = search needs
 
-add-t8 : tie.Need-add-t8
-add-t8 c = search needs
+add-more : tie.Need-add-more
+add-more c = search needs
 
 returns : tie.Need-returns
 returns c = counted-good _ _ (c .before .before .if1 .taken) _ (c .count .ensures .0)
@@ -20,4 +20,4 @@ returns-2 : tie.Need-returns-2
 returns-2 c = counted-bad _ _ (c .if1 .left)
 
 pub counted-with-spec : {M : Type 1} → statement M
-counted-with-spec = tie.close (tie.spec count-requires cast-n add-t8 returns returns-2)
+counted-with-spec = tie.close (tie.spec count-requires cast-n add-more returns returns-2)

@@ -36,24 +36,35 @@ same-length c = c .before .before .loop .inv .long
 
 returns : tie.Need-returns Inv-loop μ-loop
 returns c =
-    puts-over _ _ _ (c .before .before .before .before .before .before .pre .0) _ _ _ _ _ (c .before .before .loop .inv) _ (c .before .next .ensures .0) (not-true _ (c .if1 .taken))
+    puts-over _ _ _ (c .before .before .before .before .before .before .pre .0) _ _ _ _ _ (c .before .before .loop .inv) _
+    (c .before .next .ensures .0) (not-true _ (c .if1 .taken))
 
 put-row-requires : tie.Need-put-row-requires Inv-loop μ-loop
 put-row-requires c κs =
     let found = not-false _ (c .before .if1 .left) in
-    let below = puts-below _ _ _ (c .before .before .before .before .before .before .before .pre .0) _ _ _ _ _ (c .before .before .before .loop .inv) _ (c .before .before .next .ensures .0) found in
-    (recorded-at _ _ (c .before .before .before .before .before .before .before .args .g) _ (c .before .before .before .before .before .before .before .pre .0) below, puts-room _ _ _ (c .before .before .before .before .before .before .before .pre .0) _ _ _ _ _ (c .before .before .before .loop .inv) _ (c .before .before .next .ensures .0) found)
+    let below = puts-below _ _ _ (c .before .before .before .before .before .before .before .pre .0) _ _ _ _ _
+    (c .before .before .before .loop .inv) _ (c .before .before .next .ensures .0) found in (
+      recorded-at _ _ (c .before .before .before .before .before .before .before .args .g) _
+          (c .before .before .before .before .before .before .before .pre .0) below,
+      puts-room _ _ _
+          (c .before .before .before .before .before .before .before .pre .0) _ _ _ _ _ (c .before .before .before .loop .inv) _
+          (c .before .before .next .ensures .0) found,
+    )
 
 add-to : tie.Need-add-to Inv-loop μ-loop
 add-to c = omega (arith, c .before .before .before .before .before .before .loop .inv .room)
 
 loop-less : tie.Need-loop-less Inv-loop μ-loop
 loop-less c =
-    emptied-less _ _ (c .before .before .before .before .before .before .next .ensures .0) (not-false _ (c .before .before .before .before .before .if1 .left))
+    emptied-less _ _ (c .before .before .before .before .before .before .next .ensures .0)
+    (not-false _ (c .before .before .before .before .before .if1 .left))
 
 loop-again : tie.Need-loop-again Inv-loop μ-loop
 loop-again c =
-    puts-more _ _ _ (c .before .before .before .before .before .before .before .before .before .before .before .pre .0) _ _ _ _ _ (c .before .before .before .before .before .before .before .loop .inv) _ (c .before .before .before .before .before .before .next .ensures .0) (not-false _ (c .before .before .before .before .before .if1 .left)) _ (c .before .before .before .put-row .ensures)
+    puts-more _ _ _ (c .before .before .before .before .before .before .before .before .before .before .before .pre .0) _ _ _ _ _
+    (c .before .before .before .before .before .before .before .loop .inv) _
+    (c .before .before .before .before .before .before .next .ensures .0)
+    (not-false _ (c .before .before .before .before .before .if1 .left)) _ (c .before .before .before .put-row .ensures)
 
 pub put-rows-spec : {M : Type 1} → statement M
 put-rows-spec =

@@ -20,22 +20,26 @@ loop-holds c =
 
 write-on-requires : tie.Need-write-on-requires Inv-loop μ-loop
 write-on-requires c κs =
-    let i = c .before .loop .inv in
-    ((c .before .before .before .before .pre .0 .0, c .before .before .before .before .pre .0 .1, i .room), (i .sound, (i .busy, i .counts)))
+    let i = c .before .loop .inv in (
+      (c .before .before .before .before .pre .0 .0, c .before .before .before .before .pre .0 .1, i .room),
+      (i .sound, (i .busy, i .counts)),
+    )
 
 same-length : tie.Need-same-length Inv-loop μ-loop
 same-length c = c .before .before .before .write-on .ensures .size ∙ c .before .before .before .before .before .loop .inv .long
 
 returns : tie.Need-returns Inv-loop μ-loop
 returns c =
-    write-over _ _ _ _ _ _ _ _ (c .before .before .before .before .before .loop .inv) _ _ (c .before .before .before .write-on .ensures) (c .if1 .taken)
+    write-over _ _ _ _ _ _ _ _ (c .before .before .before .before .before .loop .inv) _ _
+    (c .before .before .before .write-on .ensures) (c .if1 .taken)
 
 loop-less : tie.Need-loop-less Inv-loop μ-loop
 loop-less c = c .before .before .before .write-on .ensures .falls (c .if1 .left)
 
 loop-again : tie.Need-loop-again Inv-loop μ-loop
 loop-again c =
-    write-again _ _ _ _ _ _ _ _ (c .before .before .before .before .before .loop .inv) _ _ (c .before .before .before .write-on .ensures) (c .if1 .left)
+    write-again _ _ _ _ _ _ _ _ (c .before .before .before .before .before .loop .inv) _ _
+    (c .before .before .before .write-on .ensures) (c .if1 .left)
 
 pub write-closed-spec : {M : Type 1} → statement M
 write-closed-spec =

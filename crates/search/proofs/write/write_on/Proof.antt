@@ -27,23 +27,30 @@ write-one-requires c κs =
     let p = c .before .before .before .before .before .before .before .before .pre in
     let e = sym (c .before .before .before .before .advance .ensures) ∙ c .before .before .step2 .given .1 in (
       visit-facts (a .nand .now) (a .slots) (a .live) (a .q) (p .0 .0) (a .w .c) (p .1 .0) _ _ e .0,
-      (visit-fits (a .nand .now) (a .slots) (a .live) (a .q) (p .0 .0) (a .area .now) (a .w) (p .1 .0) (p .1 .1 .0) (p .1 .1 .1) _ _ e, p .0 .2),
+      (
+        visit-fits (a .nand .now) (a .slots) (a .live) (a .q) (p .0 .0) (a .area .now) (a .w) (p .1 .0) (p .1 .1 .0) (p .1 .1 .1) _
+            _ e,
+        p .0 .2,
+      ),
     )
 
 returns : tie.Need-returns
 returns c =
     let p = c .before .before .before .before .before .before .pre in
-    write-end _ _ _ _ (p .0 .0) _ _ (p .1 .0) (p .1 .1 .0) (p .1 .1 .1) (sym (c .before .before .advance .ensures) ∙ c .enum-told .given .1)
+    write-end _ _ _ _ (p .0 .0) _ _ (p .1 .0) (p .1 .1 .0) (p .1 .1 .1)
+    (sym (c .before .before .advance .ensures) ∙ c .enum-told .given .1)
 
 returns-2 : tie.Need-returns-2
 returns-2 c =
     let p = c .before .before .before .before .before .before .pre in
-    write-damage _ _ _ _ (p .0 .0) _ _ (p .1 .0) (p .1 .1 .0) (p .1 .1 .1) (sym (c .before .before .advance .ensures) ∙ c .enum-told2 .given .1)
+    write-damage _ _ _ _ (p .0 .0) _ _ (p .1 .0) (p .1 .1 .0) (p .1 .1 .1)
+    (sym (c .before .before .advance .ensures) ∙ c .enum-told2 .given .1)
 
 returns-3 : tie.Need-returns-3
 returns-3 c =
     let p = c .before .before .before .before .before .before .before .pre in
-    write-pass _ _ _ _ (p .0 .0) _ _ (p .1 .0) (p .1 .1 .0) (p .1 .1 .1) _ (sym (c .before .before .before .advance .ensures) ∙ c .before .step .given .1)
+    write-pass _ _ _ _ (p .0 .0) _ _ (p .1 .0) (p .1 .1 .0) (p .1 .1 .1) _
+    (sym (c .before .before .before .advance .ensures) ∙ c .before .step .given .1)
 
 same-length : tie.Need-same-length
 same-length c = search needs
@@ -51,7 +58,9 @@ same-length c = search needs
 returns-4 : tie.Need-returns-4
 returns-4 c =
     let p = c .before .before .before .before .before .before .before .before .before .before .before .pre in
-    write-visit _ _ _ _ (p .0 .0) _ _ (p .1 .0) (p .1 .1 .0) (p .1 .1 .1) _ _ (sym (c .before .before .before .before .before .before .before .advance .ensures) ∙ c .before .before .before .before .before .step2 .given .1) (p .0 .2)
+    write-visit _ _ _ _ (p .0 .0) _ _ (p .1 .0) (p .1 .1 .0) (p .1 .1 .1) _ _
+    (sym (c .before .before .before .before .before .before .before .advance .ensures) ∙
+    c .before .before .before .before .before .step2 .given .1) (p .0 .2)
     _ _ (c .before .before .write-one .ensures)
 
 pub write-on-spec : {M : Type 1} → statement M

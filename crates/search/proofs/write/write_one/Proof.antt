@@ -17,7 +17,8 @@ cast-row c = search needs
 
 sub-row : tie.Need-sub-row
 sub-row c =
-    let p = closed-placed _ _ (c .before .before .before .before .before .args .q) (c .before .before .before .before .before .pre .0) _ (c .before .before .closed-matches .ensures) _ refl _ refl in
+    let p = closed-placed _ _ (c .before .before .before .before .before .args .q)
+    (c .before .before .before .before .before .pre .0) _ (c .before .before .closed-matches .ensures) _ refl _ refl in
     omega (arith, placed-many _ _ _ _ _ p _ (c .count .ensures .0), c .before .before .before .before .before .pre .1 .0)
 
 closed-lifts-requires : tie.Need-closed-lifts-requires
@@ -28,16 +29,24 @@ closed-records-requires c κs = search needs
 
 put-rows-requires : tie.Need-put-rows-requires
 put-rows-requires c κs =
-    let p = closed-placed _ _ (c .before .before .before .before .before .before .before .before .args .q) (c .before .before .before .before .before .before .before .before .pre .0) _ (c .before .before .before .before .before .closed-matches .ensures) _ (c .before .before .closed-lifts .ensures) _ (c .before .closed-records .ensures) in
-    (p .recorded, (p .below, omega (arith, c .before .before .before .count .ensures .0, c .before .before .before .before .before .before .before .before .pre .1 .1, sub-row (c .before .before .before))))
+    let n = c .before .before .before in
+    let s = n .before .before .before .before .before in
+    let p =
+    closed-placed _ _ (s .args .q) (s .pre .0) _ (n .before .before .closed-matches .ensures) _ (c .before .before .closed-lifts .ensures)
+    _ (c .before .closed-records .ensures) in
+    (p .recorded, (p .below, omega (arith, n .count .ensures .0, s .pre .1 .1, sub-row n)))
 
 same-length : tie.Need-same-length
 same-length c = search needs
 
 returns : tie.Need-returns
 returns c =
-    let p = closed-placed _ _ _ (c .before .before .before .before .before .before .before .before .before .before .before .pre .0) _ (c .before .before .before .before .before .before .before .before .closed-matches .ensures) _ (c .before .before .before .before .before .closed-lifts .ensures) _ (c .before .before .before .before .closed-records .ensures) in
-    placed-written _ _ _ _ _ p _ (c .before .before .before .before .before .before .count .ensures .0) _ _ _ (c .before .before .before .before .before .before .before .before .before .before .before .pre .1 .0) (c .before .before .put-rows .ensures)
+    let n = c .before .before .before .before .before .before in
+    let s = n .before .before .before .before .before in
+    let p =
+    closed-placed _ _ _ (s .pre .0) _ (n .before .before .closed-matches .ensures) _ (c .before .before .before .before .before .closed-lifts .ensures)
+    _ (c .before .before .before .before .closed-records .ensures) in
+    placed-written _ _ _ _ _ p _ (n .count .ensures .0) _ _ _ (s .pre .1 .0) (c .before .before .put-rows .ensures)
 
 pub write-one-spec : {M : Type 1} → statement M
 write-one-spec =

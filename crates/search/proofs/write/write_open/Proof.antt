@@ -24,8 +24,10 @@ cast-row c = search needs
 
 sub-row : tie.Need-sub-row
 sub-row c =
-    let p = open-placed _ _ _ _ (c .before .before .before .before .before .before .before .before .before .args .q) (c .before .before .before .before .before .before .before .before .before .pre .0) (c .before .before .before .before .before .before .before .before .before .pre .1 .0) (c .before .before .before .if1 .left) _ (c .before .before .open-matches .ensures) _ refl _ refl in
-    omega (arith, placed-many _ _ _ _ _ p _ (c .count .ensures .0), c .before .before .before .before .before .before .before .before .before .pre .1 .1 .0)
+    let s = c .before .before .before .before .before .before .before .before .before in
+    let p =
+    open-placed _ _ _ _ (s .args .q) (s .pre .0) (s .pre .1 .0) (c .before .before .before .if1 .left) _ (c .before .before .open-matches .ensures) _ refl _ refl in
+    omega (arith, placed-many _ _ _ _ _ p _ (c .count .ensures .0), s .pre .1 .1 .0)
 
 open-lifts-requires : tie.Need-open-lifts-requires
 open-lifts-requires c κs = search needs
@@ -35,18 +37,24 @@ open-records-requires c κs = search needs
 
 put-rows-requires : tie.Need-put-rows-requires
 put-rows-requires c κs =
-    let p = open-placed _ _ _ _ (c .before .before .before .before .before .before .before .before .before .before .before .before .args .q) (c .before .before .before .before .before .before .before .before .before .before .before .before .pre .0) (c .before .before .before .before .before .before .before .before .before .before .before .before .pre .1 .0) (c .before .before .before .before .before .before .if1 .left) _ (c .before .before .before .before .before .open-matches .ensures)
+    let n = c .before .before .before in
+    let s = n .before .before .before .before .before .before .before .before .before in
+    let p =
+    open-placed _ _ _ _ (s .args .q) (s .pre .0) (s .pre .1 .0) (n .before .before .before .if1 .left) _ (n .before .before .open-matches .ensures)
     _ (c .before .before .open-lifts .ensures) _ (c .before .open-records .ensures) in
-    (p .recorded, (p .below, omega (arith, c .before .before .before .count .ensures .0, c .before .before .before .before .before .before .before .before .before .before .before .before .pre .1 .1 .1, sub-row (c .before .before .before))))
+    (p .recorded, (p .below, omega (arith, n .count .ensures .0, s .pre .1 .1 .1, sub-row n)))
 
 same-length : tie.Need-same-length
 same-length c = search needs
 
 returns-2 : tie.Need-returns-2
 returns-2 c =
-    let p = open-placed _ _ _ _ _ (c .before .before .before .before .before .before .before .before .before .before .before .before .before .before .before .pre .0) (c .before .before .before .before .before .before .before .before .before .before .before .before .before .before .before .pre .1 .0) (c .before .before .before .before .before .before .before .before .before .if1 .left) _ (c .before .before .before .before .before .before .before .before .open-matches .ensures)
+    let n = c .before .before .before .before .before .before in
+    let s = n .before .before .before .before .before .before .before .before .before in
+    let p =
+    open-placed _ _ _ _ _ (s .pre .0) (s .pre .1 .0) (n .before .before .before .if1 .left) _ (n .before .before .open-matches .ensures)
     _ (c .before .before .before .before .before .open-lifts .ensures) _ (c .before .before .before .before .open-records .ensures) in
-    placed-written _ _ _ _ _ p _ (c .before .before .before .before .before .before .count .ensures .0) _ _ _ (c .before .before .before .before .before .before .before .before .before .before .before .before .before .before .before .pre .1 .1 .0) (c .before .before .put-rows .ensures)
+    placed-written _ _ _ _ _ p _ (n .count .ensures .0) _ _ _ (s .pre .1 .1 .0) (c .before .before .put-rows .ensures)
 
 pub write-open-spec : {M : Type 1} → statement M
 write-open-spec =
