@@ -5,7 +5,6 @@ use mathlib.Core.Option.{Option, none, some}
 use mathlib.Core.List.{List}
 use Prim.Native.Nat.{ℕ, _+_, _*_, _/_, _≤_, _<_}
 use native.Mathlib.Omega.{arith}
-use lib.Dec.{ltb}
 use lib.ListN.{length}
 use borrow.Author.Tests.{not-true, not-false, lt-ltb, le-ltb}
 use Rattle.walk.specs.declared.Cursor.{Cursor}
@@ -20,7 +19,7 @@ use Rattle.search.specs.Answers.{SearchAnswer, searchAnswer}
 use Rattle.search.specs.Found.{joinRows, rowsFrom, closedFound, foundRows}
 use Rattle.search.specs.Turns.{allRows, rowsAfter, rowsIn, countOf, writtenIn, WrittenUpTo, CountIs}
 use Rattle.search.proofs.Counts.{never, count-join, count-most}
-use Rattle.search.proofs.Matched.{WideIn, open-few}
+use Rattle.search.proofs.Matched.{open-few}
 use Rattle.search.proofs.Segments.{rows-any, rows-wide}
 use Rattle.search.proofs.Written.{newer-fit, older-left, older-before}
 

@@ -8,7 +8,6 @@ use native.Mathlib.Omega.{arith}
 use lib.ListN.{length, take, drop, length-append, take-append-drop}
 use lib.Seq.{length-take-le, take-append-le, take-take, drop-at}
 use Rattle.codec.specs.Area.{splice}
-use Rattle.codec.proofs.Areas.{length-splice}
 use Rattle.search.specs.Answers.{rowBytes}
 use Rattle.search.proofs.Rows.{Wide, length-rows, rows-append}
 

@@ -3,7 +3,7 @@ use mathlib.Core.Path.{_≡_, refl, sym, ap, _∙_}
 use mathlib.Core.Bool.{Bool, true, false, cond}
 use mathlib.Core.Option.{Option, none, some}
 use mathlib.Core.List.{List, [], _∷_, map}
-use Prim.Native.Nat.{ℕ, _+_, _-_, _*_, _≤_, _<_}
+use Prim.Native.Nat.{ℕ, _-_, _*_, _≤_, _<_}
 use native.Mathlib.Omega.{arith}
 use lib.Dec.{eqb, ltb}
 use lib.ListN.{length, length-map}
@@ -22,10 +22,10 @@ use Rattle.walk.specs.declared.Closed.{Closed}
 use Rattle.walk.specs.declared.Log.{Log}
 use Rattle.walk.specs.declared.Query.{Query}
 use Rattle.walk.specs.Visit.{rowsAt, closedMatches, closedLifts, closedRows, openMatches, openLifts, openRows, firstBuffered}
-use Rattle.walk.specs.Sound.{ClosedSound, LogSound, closedRecords, openRecords}
+use Rattle.walk.specs.Sound.{ClosedSound, closedRecords}
 use Rattle.walk.proofs.Emptying.{recorded-at}
 use Rattle.walk.proofs.Matched.{Places, matches-places}
-use Rattle.walk.proofs.Areas.{closed-recorded, open-recorded}
+use Rattle.walk.proofs.Areas.{closed-recorded}
 use Rattle.search.specs.Answers.{rowCodes}
 use Rattle.search.specs.Turns.{rowsIn, countOf, countedWith}
 use Rattle.search.proofs.Rows.{Wide}

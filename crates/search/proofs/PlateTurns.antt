@@ -1,6 +1,6 @@
 -- Tallying from segment to segment: each turn leads to the same counts; then the answer of a tally. Assumes nothing.
 use mathlib.Core.Path.{_≡_, refl, sym, ap, _∙_}
-use mathlib.Core.Bool.{Bool, true, false, cond, not, _&&_}
+use mathlib.Core.Bool.{Bool, true, false, not, _&&_}
 use mathlib.Core.Option.{Option, none, some}
 use mathlib.Core.List.{List, []}
 use Prim.Native.Nat.{ℕ, _+_, _-_, _*_, _^_, _≤_, _<_}
@@ -12,7 +12,6 @@ use Rattle.walk.specs.declared.Closed.{Closed}
 use Rattle.walk.specs.declared.Cursor.{Cursor}
 use Rattle.walk.specs.declared.Log.{Log}
 use Rattle.walk.specs.declared.Query.{Query}
-use Rattle.walk.specs.declared.Step.{Step}
 use Rattle.walk.specs.declared.Step.the-variants.{End, Damage, Pass, Visit}
 use Rattle.walk.specs.Visit.{advanceOf, closedRows, openRows}
 use Rattle.walk.specs.Sound.{Sound, Begun}
@@ -23,7 +22,7 @@ use Rattle.search.specs.Found.{joinRows}
 use Rattle.search.specs.Turns.{allRows, rowsAfter, rowsIn, countedAll, tallyOf, NoneAbove, tallyLeft, TalliesOn}
 use Rattle.search.proofs.Answered.{and-left, and-right, all-none, all-is}
 use Rattle.search.proofs.Counts.{never}
-use Rattle.search.proofs.Matched.{FewIn, closed-few, open-few}
+use Rattle.search.proofs.Matched.{closed-few, open-few}
 use Rattle.search.proofs.Segments.{rows-end, rows-damage, pass-facts, rows-pass, visit-facts, rows-visit}
 use Rattle.search.proofs.Tallies.{none-zero, counted-none, tally-join, tally-few}
 

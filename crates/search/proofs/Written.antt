@@ -1,9 +1,9 @@
 -- Writing rows: a set's records one after the other, a segment's rows up to an end, and from segment to segment backwards.
 -- Assumes nothing.
 use mathlib.Core.Path.{_≡_, refl, sym, ap, _∙_}
-use mathlib.Core.Bool.{Bool, true, false, cond}
+use mathlib.Core.Bool.{true, false}
 use mathlib.Core.Option.{Option, none, some}
-use mathlib.Core.List.{List, [], _∷_, _++_, map}
+use mathlib.Core.List.{List, [], map}
 use Prim.Native.Nat.{ℕ, _+_, _-_, _*_, _≤_, _<_}
 use native.Mathlib.Omega.{arith}
 use lib.ListN.{length, length-append, length-map}
@@ -20,10 +20,9 @@ use Rattle.sweep.specs.Swept.{Recorded}
 use Rattle.walk.specs.declared.Closed.{Closed}
 use Rattle.walk.specs.declared.Cursor.{Cursor}
 use Rattle.walk.specs.declared.Query.{Query}
-use Rattle.walk.specs.declared.Step.{Step}
 use Rattle.walk.specs.declared.Step.the-variants.{End, Damage, Pass, Visit}
 use Rattle.walk.specs.Visit.{advanceOf, closedRows}
-use Rattle.walk.specs.Sound.{Sound, ClosedSound}
+use Rattle.walk.specs.Sound.{Sound}
 use Rattle.walk.proofs.Emptying.{emptied-more, emptied-all, emptied-below}
 use Rattle.search.specs.declared.Writing.{Writing}
 use Rattle.search.specs.Answers.{rowBytes}

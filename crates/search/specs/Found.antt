@@ -1,14 +1,13 @@
 -- What a search finds over all segments (document 01, "Search"): rows "by serial and then position, so oldest first over all
 -- segments".
 -- Assumes nothing.
-use mathlib.Core.Bool.{Bool, true, false, cond}
+use mathlib.Core.Bool.{cond}
 use mathlib.Core.Option.{Option, none, some}
-use mathlib.Core.List.{List, [], _∷_, _++_}
+use mathlib.Core.List.{List, [], _++_}
 use Prim.Native.Nat.{ℕ, zero, suc, _+_}
 use Rattle.walk.specs.declared.Cursor.{Cursor}
 use Rattle.walk.specs.declared.Log.{Log}
 use Rattle.walk.specs.declared.Query.{Query}
-use Rattle.walk.specs.declared.Step.{Step}
 use Rattle.walk.specs.declared.Step.the-variants.{End, Damage, Pass, Visit}
 use Rattle.walk.specs.Seek.{startOf}
 use Rattle.walk.specs.Visit.{advanceOf, closedRows, openRows}

@@ -9,11 +9,11 @@ use native.Mathlib.Omega.{arith}
 use lib.Dec.{eqb, ltb, leb}
 use lib.ListN.{length, getD}
 use borrow.Author.Tests.{ltb-true, not-true, not-false}
-use Rattle.flash.specs.Chip.{pageOf, pagesOf}
+use Rattle.flash.specs.Chip.{pageOf}
 use Rattle.skiplist.specs.declared.Pointer.{Pointer}
 use Rattle.skiplist.specs.Skip.{none, isNone, isLive, inSlots}
 use Rattle.segment.specs.declared.Header.{Header}
-use Rattle.segment.specs.Header.{headerIn, headerGood}
+use Rattle.segment.specs.Header.{headerIn}
 use Rattle.segment.proofs.HeaderFacts.{HeaderFacts, header-facts, good-slots}
 use Rattle.walk.specs.declared.Cursor.{Cursor}
 use Rattle.walk.specs.declared.Log.{Log}

@@ -4,10 +4,9 @@ use mathlib.Core.Path.{_≡_, refl, sym, ap, _∙_}
 use mathlib.Core.Bool.{Bool, true, false, cond, not, _&&_, _||_}
 use mathlib.Core.Option.{Option, none, some}
 use mathlib.Core.List.{List, [], _∷_, _++_}
-use Prim.Native.Nat.{ℕ, zero, suc, _+_, _*_, _≤_, _<_}
+use Prim.Native.Nat.{ℕ, zero, suc, _+_, _≤_, _<_}
 use native.Mathlib.Omega.{arith}
 use lib.Dec.{eqb, leb, ltb}
-use lib.ListN.{length}
 use borrow.Author.Tests.{ltb-true, eqb-true, eqb-false, ne-eqb, not-true, not-false}
 use Rattle.bitset.specs.declared.Bits.{Bits}
 use Rattle.bitset.specs.Set.{emptyWords, insertAll, members, picked, has, elem}
@@ -19,7 +18,6 @@ use Rattle.tree.specs.Reading.{kidsOf, kidsGood, positionsGood, nodeGood, Node}
 use Rattle.tree.specs.Search.{within, hits, reached}
 use Rattle.tree.specs.Sweep.{andThen, nodeAt, visitGood, sweepFrom, sweepOn, recordsGood}
 use Rattle.sweep.specs.declared.Records.{Records}
-use Rattle.sweep.specs.declared.Range.{Range}
 use Rattle.sweep.specs.declared.Sweep.{Sweep}
 use Rattle.sweep.specs.Swept.{sweptFrom, sweptOf}
 use Rattle.sweep.proofs.Passing.{and-both}

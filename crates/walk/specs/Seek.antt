@@ -1,7 +1,7 @@
 -- Where a search's closed segments begin (document 01, "Search", first paragraph): the skip walk, from the heads, level 4 down
 -- to 1.
 -- Assumes nothing.
-use mathlib.Core.Bool.{Bool, true, false, cond, not, _&&_}
+use mathlib.Core.Bool.{true, cond, not, _&&_}
 use mathlib.Core.List.{List}
 use Prim.Native.Nat.{ℕ, zero, suc, _+_}
 use lib.Dec.{eqb, leb, ltb}

@@ -1,5 +1,5 @@
 -- `walk::advance` meets its contract: the end, damage, a segment passed over, a segment to search.
-use mathlib.Core.Path.{_≡_, ap, _∙_}
+use mathlib.Core.Path.{ap, _∙_}
 use lib.ListN.{length}
 use Rattle.codec.proofs.Areas.{length-part}
 use Rattle.walk.proofs.Steps.{advance-end, advance-inside, advance-damage, header-sound, advance-pass, advance-visit}

@@ -1,5 +1,5 @@
 -- `walk::hop` meets its contract: a level down, a header on, damage.
-use mathlib.Core.Path.{_≡_, ap, _∙_}
+use mathlib.Core.Path.{ap, _∙_}
 use Prim.Native.Nat.{_-_}
 use lib.ListN.{length}
 use Rattle.codec.proofs.Areas.{length-part}

@@ -1,5 +1,5 @@
 -- `walk::open_lifts` meets its contract: the slot is the open serial's.
-use mathlib.Core.Path.{_≡_, ap, _∙_}
+use mathlib.Core.Path.{ap, _∙_}
 use Prim.Native.Nat.{ℕ}
 use Rattle.flash.specs.Chip.{pagesOf}
 use borrow.Author.Needs.{needs}

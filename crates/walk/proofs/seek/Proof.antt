@@ -1,6 +1,6 @@
 -- `walk::seek` meets its contract: the hops that are left lead from here to where they lead from the heads.
-use mathlib.Core.Path.{_≡_, refl, sym, ap, _∙_}
-use Prim.Native.Nat.{ℕ, suc, _+_, _-_, _<_}
+use mathlib.Core.Path.{_≡_, refl, sym, _∙_}
+use Prim.Native.Nat.{suc, _-_}
 use Rattle.walk.specs.Seek.{hops, skipWalk}
 use Rattle.walk.proofs.Hops.{hopsLeft, Walked, hop-walked, left-level, hop-falls, walk-step, walk-end, walk-starts}
 use native.Mathlib.Omega.{arith}

@@ -1,7 +1,7 @@
 -- `search::by_plate::tally_open` meets its contract: no lifts, damage, or the set's lifts counted.
 use mathlib.Core.Path.{sym, ap, _∙_}
 use mathlib.Core.Bool.{true}
-use mathlib.Core.List.{List, []}
+use mathlib.Core.List.{List}
 use Prim.Native.Nat.{ℕ}
 use borrow.Author.Tests.{not-true, not-false}
 use Rattle.search.specs.Turns.{countedAll, tallyOf}
