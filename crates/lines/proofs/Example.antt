@@ -1,0 +1,36 @@
+-- The example of document 01, "Program", by computation: its three lines read, its four printed. Assumes nothing.
+use mathlib.Core.Path.{_≡_, refl}
+use mathlib.Core.List.{List, [], _∷_, _++_}
+use Prim.Native.Nat.{ℕ}
+use lib.IntN.{pos}
+use lib.ListN.{replicate}
+use Rattle.codec.specs.Area.{part}
+use Rattle.lines.specs.declared.Line.the-variants.{Append, Search}
+use Rattle.lines.specs.Columns.{readOn, readFrom}
+use Rattle.lines.specs.Forms.{appendLine, searchLine, hasForm, lineOf}
+use Rattle.lines.specs.Printed.{columnsOf, headBytes, countBytes, loadBytes, liftBytes}
+
+abbrev spaces : ℕ → List ℕ → List ℕ
+spaces n l = replicate n 32 ++ l
+
+-- 48 to 57 are the digits, 65 is A, 81 is Q
+pub first-read : lineOf (65 ∷ spaces 11 (49 ∷ 48 ∷ 48 ∷ 48 ∷ spaces 5 (50 ∷ 53 ∷ 48 ∷ []))) ≡ Append 1000 (pos 250)
+unfolding lineOf hasForm appendLine searchLine part readFrom readOn
+first-read = refl
+
+pub second-read : lineOf (65 ∷ spaces 11 (50 ∷ 48 ∷ 48 ∷ 48 ∷ spaces 5 (55 ∷ 53 ∷ 49 ∷ []))) ≡ Append 2000 (pos 751)
+unfolding lineOf hasForm appendLine searchLine part readFrom readOn
+second-read = refl
+
+pub third-read :
+    lineOf (81 ∷ spaces 14 (48 ∷ spaces 11 (51 ∷ 48 ∷ 48 ∷ 48 ∷ spaces 5 (50 ∷ 53 ∷ 49 ∷ spaces 4 (49 ∷ 48 ∷ 48 ∷ 48 ∷ [])))))
+    ≡ Search 0 3000 (pos 251) (pos 1000)
+unfolding lineOf hasForm appendLine searchLine part readFrom readOn
+third-read = refl
+
+pub printed :
+    (headBytes 65 0 ≡ 65 ∷ 32 ∷ 32 ∷ 48 ∷ [])
+    × (headBytes 81 0 ++ countBytes 1 ≡ 81 ∷ 32 ∷ 32 ∷ 48 ∷ spaces 6 (49 ∷ []))
+    × (liftBytes 2000 (pos 751) ≡ spaces 11 (50 ∷ 48 ∷ 48 ∷ 48 ∷ spaces 5 (55 ∷ 53 ∷ 49 ∷ [])))
+unfolding columnsOf loadBytes
+printed = (refl, refl, refl)

@@ -1,0 +1,5 @@
+pub mod Reading
+pub mod Forms
+pub mod Printing
+pub mod ReadBack
+pub mod Example
