@@ -1,10 +1,10 @@
 -- Serials less than S apart have different slots. Assumes nothing.
-use mathlib.Core.Path.{_≡_, sym, _∙_}
+use mathlib.Core.Path.{_≡_}
 use Prim.Native.Nat.{ℕ, suc, _+_, _-_, _*_, _/_, _%_, _≤_, _<_}
 use native.Mathlib.Nat.{div-add-mod', mul-le-mul-right, mod-lt}
 use native.Mathlib.Decide.{decLt}
 use native.Mathlib.Omega.{arith}
 use Rattle.flash.specs.Chip.{slotOf}
 
 -- equal remainders of numbers less than s apart
 same-rest : (s x y : ℕ) → x < y → y < x + s → x % s ≡ y % s → ⊥
