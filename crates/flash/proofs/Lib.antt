@@ -1,2 +1,3 @@
 pub mod Pages
 pub mod Clearing
+pub mod Slots

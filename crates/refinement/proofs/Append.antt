@@ -27,7 +27,7 @@ use Rattle.refinement.specs.Segments as S
 use Rattle.refinement.specs.Image.{History, oldestHeads, nandImage, stateImage, image}
 use Rattle.refinement.proofs.Good.{GoodLift, Built, Good}
 use Rattle.refinement.proofs.Lengths.{length-codes, length-sections}
-use Rattle.refinement.proofs.Slots.{slot-below}
+use Rattle.flash.proofs.Slots.{slot-below}
 use Rattle.refinement.proofs.PageLengths.{page-of-nand, length-area}
 use Rattle.refinement.proofs.PageFrom.{page-open}
 use Rattle.refinement.proofs.Close.{closeHistory, good-close, close-world}

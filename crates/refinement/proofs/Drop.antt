@@ -21,7 +21,7 @@ use Rattle.refinement.specs.Segments as S
 use Rattle.refinement.specs.Image.{History, oldestHeads, pageFrom, pageImage, nandImage, firstStart, stateImage, image}
 use Rattle.refinement.proofs.Good as G
 use Rattle.refinement.proofs.Good.{Built, AllBuilt, Times, Segments, Starts, Good}
-use Rattle.refinement.proofs.Slots.{slots-differ, slot-below}
+use Rattle.flash.proofs.Slots.{slots-differ, slot-below}
 use Rattle.refinement.proofs.PageLengths.{length-nand, page-of-nand}
 use Rattle.refinement.proofs.PageFrom.{open-none}
 use Rattle.refinement.proofs.InBounds.{times-up, segments-up, start-below}

@@ -20,7 +20,7 @@ use Rattle.store.specs.Bounds.{headsOk, withinBounds}
 use Rattle.paper_log.specs.Log.{Lift, Log, openSerial, codes}
 use Rattle.refinement.specs.Segments as S
 use Rattle.refinement.specs.Image.{History, openHeads, oldestHeads, firstStart, stateImage}
-use Rattle.refinement.proofs.Slots.{slot-below}
+use Rattle.flash.proofs.Slots.{slot-below}
 use Rattle.refinement.proofs.Lengths.{good-loads}
 use Rattle.refinement.proofs.ClosePage.{few-buckets}
 use Rattle.refinement.proofs.Close.{no-buckets}

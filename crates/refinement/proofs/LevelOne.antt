@@ -30,7 +30,7 @@ use Rattle.refinement.specs.Image.{History, oldestHeads, nandImage, live
 use Rattle.refinement.proofs.Good.{Good}
 use Rattle.refinement.proofs.Lengths.{length-liftArea, length-codes}
 use Rattle.refinement.proofs.PageLengths.{length-nand, length-area, length-pageImage, page-of-nand}
-use Rattle.refinement.proofs.Slots.{slot-below}
+use Rattle.flash.proofs.Slots.{slot-below}
 use Rattle.refinement.proofs.InBounds.{or-right, start-below}
 use Rattle.refinement.proofs.PageFrom.{headsAt}
 use Rattle.refinement.proofs.Retained.{facts, built, retained-page, retained-header}

@@ -13,7 +13,7 @@ use Rattle.skiplist.specs.Skip.{pointer, levelOf, headsAfter}
 use Rattle.paper_log.specs.Log.{Lift}
 use Rattle.refinement.specs.Segments.{startTime, closedPage, openPage, headsFrom}
 use Rattle.refinement.specs.Image.{pageFrom}
-use Rattle.refinement.proofs.Slots.{slots-differ}
+use Rattle.flash.proofs.Slots.{slots-differ}
 
 -- the heads that the serial behind these has
 abbrev pub headsAt : ℕ → ℕ → List (List Lift) → List Pointer → List Pointer

@@ -21,7 +21,7 @@ use Rattle.refinement.specs.Image.{History, oldestHeads, firstStart, liv
 use Rattle.refinement.proofs.Good as G
 use Rattle.refinement.proofs.Good.{Times, Segments, Starts, Good}
 use Rattle.refinement.proofs.InBounds.{segments-up, starts-up, start-below}
-use Rattle.refinement.proofs.Slots.{slot-below}
+use Rattle.flash.proofs.Slots.{slot-below}
 use Rattle.refinement.proofs.PageLengths.{four-after, four-heads, four-oldest}
 use Rattle.refinement.proofs.PageFrom.{headsAt}
 use Rattle.refinement.proofs.Retained.{among}

@@ -31,7 +31,7 @@ use Rattle.refinement.specs.Segments as S
 use Rattle.refinement.specs.Image.{History, oldestHeads, pageFrom, pageImage, nandImage, stateImage, image}
 use Rattle.refinement.proofs.Good as G
 use Rattle.refinement.proofs.Good.{GoodLift, GoodLifts, Built, Times, Good}
-use Rattle.refinement.proofs.Slots.{slot-below}
+use Rattle.flash.proofs.Slots.{slot-below}
 use Rattle.refinement.proofs.Lengths.{length-liftPage, length-codes, length-sections, length-bloomBuffer}
 use Rattle.refinement.proofs.PageLengths.{length-nand, page-of-nand, length-area}
 use Rattle.refinement.proofs.OneMore as O

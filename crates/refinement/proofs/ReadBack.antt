@@ -23,7 +23,7 @@ use Rattle.refinement.specs.ReadBack.{liftIn, segmentIn, segmentsIn}
 use Rattle.refinement.proofs.Good.{GoodLifts, Good}
 use Rattle.refinement.proofs.Lengths.{length-liftArea}
 use Rattle.refinement.proofs.PageLengths.{length-nand}
-use Rattle.refinement.proofs.Slots.{slot-below}
+use Rattle.flash.proofs.Slots.{slot-below}
 use Rattle.refinement.proofs.Wanted.{noLift}
 use Rattle.refinement.proofs.Records.{pages-are, good-at, held, row-in-area}
 use Rattle.refinement.proofs.Retained.{built, retained-page, retained-header}

@@ -23,7 +23,7 @@ use Rattle.refinement.specs.Image.{History, oldestHeads, nandImage}
 use Rattle.refinement.proofs.Good.{GoodLift, GoodLifts, Good}
 use Rattle.refinement.proofs.Lengths.{wide-records, length-records, length-liftArea, length-pageBuffer}
 use Rattle.refinement.proofs.PageLengths.{length-nand, page-of-nand}
-use Rattle.refinement.proofs.Slots.{slot-below}
+use Rattle.flash.proofs.Slots.{slot-below}
 use Rattle.refinement.proofs.ClosePage.{buffer-page}
 use Rattle.refinement.proofs.PageFrom.{page-open}
 use Rattle.refinement.proofs.Wanted.{noLift}

@@ -26,7 +26,7 @@ use Rattle.refinement.specs.Image.{History, oldestHeads, pageFrom, pageI
 use Rattle.refinement.proofs.Good as G
 use Rattle.refinement.proofs.Good.{GoodLifts, Built, AllBuilt, Times, Segments, Starts, Good}
 use Rattle.refinement.proofs.Lengths.{length-codes, good-loads}
-use Rattle.refinement.proofs.Slots.{slots-differ, slot-below}
+use Rattle.flash.proofs.Slots.{slots-differ, slot-below}
 use Rattle.refinement.proofs.PageLengths.{four-heads, four-oldest, page-of-nand}
 use Rattle.refinement.proofs.ClosePage.{few-buckets}
 use Rattle.refinement.proofs.PageFrom.{headsAt}

@@ -5,7 +5,6 @@ use mathlib.Core.Option.{Option, none, some}
 use mathlib.Core.List.{List}
 use Prim.Native.Nat.{ℕ, _+_, _*_, _/_, _≤_, _<_}
 use native.Mathlib.Omega.{arith}
-use lib.Dec.{ltb}
 use lib.ListN.{length}
 use borrow.Author.Tests.{not-true, not-false, lt-ltb, le-ltb}
 use Rattle.walk.specs.declared.Cursor.{Cursor}
@@ -20,7 +19,7 @@ use Rattle.search.specs.Answers.{SearchAnswer, searchAnswer}
 use Rattle.search.specs.Found.{joinRows, rowsFrom, closedFound, foundRows}
 use Rattle.search.specs.Turns.{allRows, rowsAfter, rowsIn, countOf, writtenIn, WrittenUpTo, CountIs}
 use Rattle.search.proofs.Counts.{never, count-join, count-most}
-use Rattle.search.proofs.Matched.{WideIn, open-few}
+use Rattle.search.proofs.Matched.{open-few}
 use Rattle.search.proofs.Segments.{rows-any, rows-wide}
 use Rattle.search.proofs.Written.{newer-fit, older-left, older-before}
 
@@ -44,7 +43,8 @@ count-good n (some rows) e h = never (sym (ap (λ (x : Counted). x .good) e) ∙
 
 module _ (nand nor page : List ℕ) (g : Log) (q : Query) (c : Cursor) where
   -- damage on the way to the closed segments, or in the open one
-  pub all-none : (b : Bool) → (b ≡ false → openRows nand nor page g q ≡ none) → (c .good && b) ≡ false → allRows nand nor page g q c ≡ none
+  pub all-none : (b : Bool) → (b ≡ false → openRows nand nor page g q ≡ none) → (c .good && b) ≡ false
+      → allRows nand nor page g q c ≡ none
   all-none b f e = go (c .good) refl e
     where
       go : (t : Bool) → c .good ≡ t → (t && b) ≡ false → allRows nand nor page g q c ≡ none
@@ -57,22 +57,26 @@ module _ (nand nor page : List ℕ) (g : Log) (q : Query) (c : Cursor) where
         ap (λ (b : Bool). cond b (rowsFrom (g .current + 1) nand (g .slots) (g .live) q c) none) e
         ∙ rows-any nand (g .slots) (g .live) q size c (begun .sound) (g .current + 1) (omega (arith, begun .before-most e))
 
-    pub all-is : c .good ≡ true → allRows nand nor page g q c ≡ joinRows (rowsAfter nand (g .slots) (g .live) q c) (openRows nand nor page g q)
+    pub all-is : c .good ≡ true → allRows nand nor page g q c
+        ≡ joinRows (rowsAfter nand (g .slots) (g .live) q c) (openRows nand nor page g q)
     all-is e = ap (λ (o : Option (List (List ℕ))). joinRows o (openRows nand nor page g q)) (closed-is e)
 
     -- counting
     module _ (n : Counted) (is : n ≡ countOf 0 (openRows nand nor page g q)) where
       pub count-all-none : not (c .good && n .good) ≡ true
           → _≡_ {A = Counted} (record { good = false; total = 0 }) (countOf 0 (allRows nand nor page g q c))
-      count-all-none e = sym (ap (countOf 0) (all-none (n .good) (λ h. count-good n (openRows nand nor page g q) is h) (not-true _ e)))
+      count-all-none e =
+          sym (ap (countOf 0) (all-none (n .good) (λ h. count-good n (openRows nand nor page g q) is h) (not-true _ e)))
 
       pub count-all-few : n .total ≤ 320
-      count-all-few = rw is (few (openRows nand nor page g q) (count-most 0 (openRows nand nor page g q) (open-few nand nor page g q)))
+      count-all-few =
+          rw is (few (openRows nand nor page g q) (count-most 0 (openRows nand nor page g q) (open-few nand nor page g q)))
         where
           few : (o : Option (List (List ℕ))) → countOf 0 o .total ≤ 0 + 320 → countOf 0 o .total ≤ 320
           few o h = omega arith
 
-      pub count-all-some : not (c .good && n .good) ≡ false → (r : Counted) → r ≡ countOf (n .total) (rowsAfter nand (g .slots) (g .live) q c)
+      pub count-all-some : not (c .good && n .good) ≡ false → (r : Counted)
+          → r ≡ countOf (n .total) (rowsAfter nand (g .slots) (g .live) q c)
           → r ≡ countOf 0 (allRows nand nor page g q c)
       count-all-some e r f =
           let a = and-left (c .good) (n .good) (not-false _ e) in
@@ -98,7 +102,8 @@ module _ (nand nor page : List ℕ) (g : Log) (q : Query) (c : Cursor) where
       module _ (area new : List ℕ) (row : ℕ) (room : total * 32 ≤ length area)
           (u : WrittenUpTo area new (rowsIn (openRows nand nor page g q)) total row) where
         pub closed-count : CountIs row (rowsAfter nand (g .slots) (g .live) q c)
-        closed-count = older-left area new total row room (rowsAfter nand (g .slots) (g .live) q c) (openRows nand nor page g q) joined u
+        closed-count =
+            older-left area new total row room (rowsAfter nand (g .slots) (g .live) q c) (openRows nand nor page g q) joined u
 
         pub all-written : (final : List ℕ) → final ≡ writtenIn new (rowsAfter nand (g .slots) (g .live) q c)
             → final ≡ writtenIn area (allRows nand nor page g q c)
@@ -109,7 +114,8 @@ module _ (nand nor page : List ℕ) (g : Log) (q : Query) (c : Cursor) where
 
 -- ---- the answer
 
-pub begun-at : (nand : List ℕ) (g : Log) (q : Query) (c : Cursor) → InSlots (g .slots) (g .heads) → c ≡ startOf nand g q → Begun g c
+pub begun-at : (nand : List ℕ) (g : Log) (q : Query) (c : Cursor) → InSlots (g .slots) (g .heads) → c ≡ startOf nand g q
+    → Begun g c
 begun-at nand g q c h e = rw e (start-begun nand g q h)
 
 pub found-is : (nand nor page : List ℕ) (g : Log) (q : Query) (c : Cursor) → c ≡ startOf nand g q
@@ -145,6 +151,7 @@ module _ (area : List ℕ) (o : Option (List (List ℕ))) (n : Counted) (is : n 
     unfolding searchAnswer
     answer-found h new e = go o (counted-is good) e
       where
-        go : (o : Option (List (List ℕ))) → CountIs (n .total) o → new ≡ writtenIn area o → answer 0 (n .total) new ≡ searchAnswer area o
+        go : (o : Option (List (List ℕ))) → CountIs (n .total) o → new ≡ writtenIn area o
+            → answer 0 (n .total) new ≡ searchAnswer area o
         go none k e = absurd k
         go (some rs) k e = let t = le-ltb (length area / 32) (length rs) (omega arith) in rw (t, k, e)

@@ -2,8 +2,8 @@
 use mathlib.Core.Path.{_≡_, refl, sym, ap, _∙_}
 use mathlib.Core.Bool.{Bool, true, false, cond, not}
 use mathlib.Core.Option.{Option, none, some}
-use mathlib.Core.List.{List, [], _∷_, _++_}
-use Prim.Native.Nat.{ℕ, _+_, _*_, _≤_, _<_}
+use mathlib.Core.List.{List, []}
+use Prim.Native.Nat.{ℕ, _+_, _*_, _≤_}
 use native.Mathlib.Omega.{arith}
 use lib.ListN.{length, length-append}
 use Rattle.bitset.specs.Set.{members}
@@ -11,7 +11,6 @@ use Rattle.sweep.specs.declared.Sweep.{Sweep}
 use Rattle.walk.specs.declared.Closed.{Closed}
 use Rattle.walk.specs.declared.Cursor.{Cursor}
 use Rattle.walk.specs.declared.Query.{Query}
-use Rattle.walk.specs.declared.Step.{Step}
 use Rattle.walk.specs.declared.Step.the-variants.{End, Damage, Pass, Visit}
 use Rattle.walk.specs.Visit.{advanceOf, closedRows}
 use Rattle.walk.specs.Sound.{Sound}
@@ -42,15 +41,20 @@ pub count-most : (total : ℕ) (newer : Option (List (List ℕ))) → FewIn newe
 count-most total none f = omega arith
 count-most total (some rows) f = omega arith
 
-module _ (nand : List ℕ) (slots live : ℕ) (q : Query) (size : length nand ≡ slots * 16384) (r : Counting) (sound : Sound slots (r .c))
+module _ (nand : List ℕ) (slots live : ℕ) (q : Query) (size : length nand ≡ slots * 16384) (r : Counting)
+    (sound : Sound slots (r .c))
     (busy : r .done ≡ false) (good : r .n .good ≡ true) where
-  left : (o : Option (List (List ℕ))) → rowsAfter nand slots live q (r .c) ≡ o → countLeft nand slots live q r ≡ countOf (r .n .total) o
+  left : (o : Option (List (List ℕ))) → rowsAfter nand slots live q (r .c) ≡ o
+      → countLeft nand slots live q r ≡ countOf (r .n .total) o
   left o e = rw (busy, e)
 
-  pub count-end : advanceOf nand slots live q (r .c) ≡ End → CountsOn nand slots live q r (record { done = true; c = r .c; n = r .n })
+  pub count-end : advanceOf nand slots live q (r .c) ≡ End
+      → CountsOn nand slots live q r (record { done = true; c = r .c; n = r .n })
   count-end e =
       record {
-        leads = ap (λ (g : Bool). tally g (r .n .total)) good ∙ ap (tally true) (omega arith) ∙ sym (left (some []) (rows-end nand slots live q size (r .c) sound e));
+        leads =
+            ap (λ (g : Bool). tally g (r .n .total)) good ∙ ap (tally true) (omega arith) ∙ sym
+            (left (some []) (rows-end nand slots live q size (r .c) sound e));
         good = λ h. never h;
         sound = λ h. never h;
         falls = λ h. never h;
@@ -88,7 +92,8 @@ module _ (nand : List ℕ) (slots live : ℕ) (q : Query) (size : length nand �
       record {
         leads =
             count-join (r .n .total) (rowsAfter nand slots live q d) (closedRows nand s q) more is
-            ∙ sym (left (joinRows (rowsAfter nand slots live q d) (closedRows nand s q)) (rows-visit nand slots live q size (r .c) sound d s e));
+            ∙ sym (left (joinRows (rowsAfter nand slots live q d) (closedRows nand s q))
+            (rows-visit nand slots live q size (r .c) sound d s e));
         good = λ h. not-not (more .good) h;
         sound = λ h. f .sound;
         falls = λ h. f .falls;
@@ -108,7 +113,8 @@ pub record CountGoes (nand : List ℕ) (slots live : ℕ) (q : Query) (all : Cou
   pub leads : countLeft nand slots live q r ≡ all
   pub room : r .n .total + 320 * r .c .before ≤ 320 + 320 * top
 
-module _ (nand : List ℕ) (slots live : ℕ) (q : Query) (all : Counted) (top : ℕ) (r : Counting) (i : CountGoes nand slots live q all top r)
+module _ (nand : List ℕ) (slots live : ℕ) (q : Query) (all : Counted) (top : ℕ) (r : Counting)
+    (i : CountGoes nand slots live q all top r)
     (next : Counting) (o : CountsOn nand slots live q r next) where
   pub count-again : next .done ≡ false → CountGoes nand slots live q all top next
   count-again h =
@@ -126,7 +132,8 @@ module _ (nand : List ℕ) (slots live : ℕ) (q : Query) (all : Counted) (top :
 -- ---- one segment's matches
 
 module _ (total : ℕ) (m : Sweep) where
-  pub counted-good : m .good ≡ true → (n : ℕ) → n ≡ length (members (m .set .words)) → tally true (total + n) ≡ countedWith total m
+  pub counted-good : m .good ≡ true → (n : ℕ) → n ≡ length (members (m .set .words))
+      → tally true (total + n) ≡ countedWith total m
   counted-good e n is = rw (e, is)
 
   pub counted-bad : m .good ≡ false → tally false 0 ≡ countedWith total m

@@ -3,7 +3,7 @@ use mathlib.Core.Path.{_≡_, refl, sym, ap, _∙_}
 use mathlib.Core.Bool.{Bool, true, false, cond}
 use mathlib.Core.Option.{Option, none, some}
 use mathlib.Core.List.{List, [], _∷_, map}
-use Prim.Native.Nat.{ℕ, _+_, _-_, _*_, _≤_, _<_}
+use Prim.Native.Nat.{ℕ, _-_, _*_, _≤_, _<_}
 use native.Mathlib.Omega.{arith}
 use lib.Dec.{eqb, ltb}
 use lib.ListN.{length, length-map}
@@ -22,10 +22,10 @@ use Rattle.walk.specs.declared.Closed.{Closed}
 use Rattle.walk.specs.declared.Log.{Log}
 use Rattle.walk.specs.declared.Query.{Query}
 use Rattle.walk.specs.Visit.{rowsAt, closedMatches, closedLifts, closedRows, openMatches, openLifts, openRows, firstBuffered}
-use Rattle.walk.specs.Sound.{ClosedSound, LogSound, closedRecords, openRecords}
+use Rattle.walk.specs.Sound.{ClosedSound, closedRecords}
 use Rattle.walk.proofs.Emptying.{recorded-at}
 use Rattle.walk.proofs.Matched.{Places, matches-places}
-use Rattle.walk.proofs.Areas.{closed-recorded, open-recorded}
+use Rattle.walk.proofs.Areas.{closed-recorded}
 use Rattle.search.specs.Answers.{rowCodes}
 use Rattle.search.specs.Turns.{rowsIn, countOf, countedWith}
 use Rattle.search.proofs.Rows.{Wide}
@@ -118,7 +118,8 @@ module _ (nand : List ℕ) (s : Closed) (q : Query) where
   pub closed-wide : ClosedSound nand s → WideIn (closedRows nand s q)
   unfolding closedRows
   closed-wide sound =
-      rows-wide (s .count) _ (λ p h. record-size (closedLifts nand s) (closedLifts nand s) (closedRecords s) (closed-recorded nand s sound) p h)
+      rows-wide (s .count) _ (λ p h. record-size (closedLifts nand s) (closedLifts nand s) (closedRecords s)
+      (closed-recorded nand s sound) p h)
       (closedMatches nand s q) closed-places
 
   module _ (m : Sweep) (is : m ≡ sweptFrom emptyWords (closedMatches nand s q)) where
@@ -126,7 +127,8 @@ module _ (nand : List ℕ) (s : Closed) (q : Query) where
     unfolding closedRows
     closed-counted total = rows-counted (s .count) _ m (closedMatches nand s q) closed-places is total
 
-    pub closed-rows-are : map (recordIn (closedLifts nand s) (closedLifts nand s) 320) (members (m .set .words)) ≡ rowsIn (closedRows nand s q)
+    pub closed-rows-are : map (recordIn (closedLifts nand s) (closedLifts nand s) 320) (members (m .set .words))
+        ≡ rowsIn (closedRows nand s q)
     unfolding closedRows
     closed-rows-are = rows-are (s .count) _ m (closedMatches nand s q) closed-places is
 
@@ -153,7 +155,8 @@ module _ (nand nor page : List ℕ) (g : Log) (q : Query) where
   open-none e = let z = eq-eqb (g .count) 0 e in rw z
 
   pub open-some : (g .count ≡ 0 → ⊥)
-      → openRows nand nor page g q ≡ rowsAt (recordIn (openLifts nand g) page (firstBuffered (g .count))) (openMatches nand nor page g q)
+      → openRows nand nor page g q
+      ≡ rowsAt (recordIn (openLifts nand g) page (firstBuffered (g .count))) (openMatches nand nor page g q)
   unfolding openRows
   open-some h = let z = ne-eqb (g .count) 0 h in rw z
 
@@ -161,7 +164,8 @@ module _ (nand nor page : List ℕ) (g : Log) (q : Query) where
     pub open-counted : (total : ℕ) → countedWith total m ≡ countOf total (openRows nand nor page g q)
     open-counted total = rw (open-some h) (rows-counted (g .count) _ m (openMatches nand nor page g q) open-places is total)
 
-    pub open-rows-are : map (recordIn (openLifts nand g) page (firstBuffered (g .count))) (members (m .set .words)) ≡ rowsIn (openRows nand nor page g q)
+    pub open-rows-are : map (recordIn (openLifts nand g) page (firstBuffered (g .count))) (members (m .set .words))
+        ≡ rowsIn (openRows nand nor page g q)
     open-rows-are = rw (open-some h) (rows-are (g .count) _ m (openMatches nand nor page g q) open-places is)
 
     pub open-damage : m .good ≡ false → openRows nand nor page g q ≡ none
@@ -177,6 +181,9 @@ module _ (nand nor page : List ℕ) (g : Log) (q : Query) where
   unfolding openRows
   open-few = go (eqb (g .count) 0)
     where
-      go : (b : Bool) → FewIn (cond b (some []) (rowsAt (recordIn (openLifts nand g) page (firstBuffered (g .count))) (openMatches nand nor page g q)))
+      go : (b : Bool) → FewIn (cond b (some [])
+          (rowsAt (recordIn (openLifts nand g) page (firstBuffered (g .count))) (openMatches nand nor page g q)))
       go true = omega arith
-      go false = rows-few (g .count) (recordIn (openLifts nand g) page (firstBuffered (g .count))) (openMatches nand nor page g q) open-places
+      go false =
+          rows-few (g .count) (recordIn (openLifts nand g) page (firstBuffered (g .count))) (openMatches nand nor page g q)
+          open-places

@@ -1,8 +1,7 @@
 -- A segment's records as the code has them at hand: its areas, its set, how many rows, their bytes and loads. Assumes nothing.
-use mathlib.Core.Path.{_≡_, refl, sym, ap, _∙_}
-use mathlib.Core.List.{List, [], map}
-use Prim.Native.Nat.{ℕ, _+_, _-_, _*_, _≤_}
-use native.Mathlib.Omega.{arith}
+use mathlib.Core.Path.{_≡_, sym, ap, _∙_}
+use mathlib.Core.List.{List, map}
+use Prim.Native.Nat.{ℕ, _-_, _*_, _≤_}
 use lib.ListN.{length}
 use Rattle.codec.specs.Area.{splice}
 use Rattle.bitset.specs.Set.{emptyWords, members}
@@ -33,13 +32,15 @@ module _ (l tail : List ℕ) (g : Records) (ps : List ℕ) (rows : List (List �
   placed-many n e = as-many (recordIn l tail (g .first)) ps rows (p .are) n e
 
   pub placed-written : (n : ℕ) → n ≡ length ps → (area new : List ℕ) (end : ℕ) → length rows ≤ end
-      → new ≡ splice area ((end - n) * 32) (rowBytes (map (recordIn l tail (g .first)) ps)) → WrittenUpTo area new rows end (end - n)
+      → new ≡ splice area ((end - n) * 32) (rowBytes (map (recordIn l tail (g .first)) ps))
+      → WrittenUpTo area new rows end (end - n)
   placed-written n e area new end h is = written-up-to (recordIn l tail (g .first)) ps rows (p .are) n e area new end h is
 
   pub placed-codes : map (codeIn l tail (g .first)) ps ≡ rowCodes rows
   placed-codes = sym (codes-are l tail g (p .recorded) ps (p .below)) ∙ ap rowCodes (p .are)
 
-pub closed-placed : (nand : List ℕ) (s : Closed) (q : Query) → ClosedSound nand s → (m : Sweep) → m ≡ sweptFrom emptyWords (closedMatches nand s q)
+pub closed-placed : (nand : List ℕ) (s : Closed) (q : Query) → ClosedSound nand s → (m : Sweep)
+    → m ≡ sweptFrom emptyWords (closedMatches nand s q)
     → (l : List ℕ) → l ≡ closedLifts nand s → (g : Records) → g ≡ closedRecords s
     → Placed l l g (members (m .set .words)) (rowsIn (closedRows nand s q))
 closed-placed nand s q sound m is l l-is g g-is =

@@ -1,6 +1,6 @@
 -- Tallying from segment to segment: each turn leads to the same counts; then the answer of a tally. Assumes nothing.
 use mathlib.Core.Path.{_≡_, refl, sym, ap, _∙_}
-use mathlib.Core.Bool.{Bool, true, false, cond, not, _&&_}
+use mathlib.Core.Bool.{Bool, true, false, not, _&&_}
 use mathlib.Core.Option.{Option, none, some}
 use mathlib.Core.List.{List, []}
 use Prim.Native.Nat.{ℕ, _+_, _-_, _*_, _^_, _≤_, _<_}
@@ -12,7 +12,6 @@ use Rattle.walk.specs.declared.Closed.{Closed}
 use Rattle.walk.specs.declared.Cursor.{Cursor}
 use Rattle.walk.specs.declared.Log.{Log}
 use Rattle.walk.specs.declared.Query.{Query}
-use Rattle.walk.specs.declared.Step.{Step}
 use Rattle.walk.specs.declared.Step.the-variants.{End, Damage, Pass, Visit}
 use Rattle.walk.specs.Visit.{advanceOf, closedRows, openRows}
 use Rattle.walk.specs.Sound.{Sound, Begun}
@@ -23,7 +22,7 @@ use Rattle.search.specs.Found.{joinRows}
 use Rattle.search.specs.Turns.{allRows, rowsAfter, rowsIn, countedAll, tallyOf, NoneAbove, tallyLeft, TalliesOn}
 use Rattle.search.proofs.Answered.{and-left, and-right, all-none, all-is}
 use Rattle.search.proofs.Counts.{never}
-use Rattle.search.proofs.Matched.{FewIn, closed-few, open-few}
+use Rattle.search.proofs.Matched.{closed-few, open-few}
 use Rattle.search.proofs.Segments.{rows-end, rows-damage, pass-facts, rows-pass, visit-facts, rows-visit}
 use Rattle.search.proofs.Tallies.{none-zero, counted-none, tally-join, tally-few}
 
@@ -32,26 +31,32 @@ plates good counts = record { good = good; counts = counts }
 
 -- ---- one segment's counts
 
-pub tally-some : (counts from more : List ℕ) (o : Option (List (List ℕ))) (codes : List ℕ) → from ≡ counts → more ≡ countedAll from codes
+pub tally-some : (counts from more : List ℕ) (o : Option (List (List ℕ))) (codes : List ℕ) → from ≡ counts
+    → more ≡ countedAll from codes
     → codes ≡ rowCodes (rowsIn o) → o ≡ some (rowsIn o) → plates true more ≡ tallyOf counts o
 tally-some counts from more none codes b e f h = let z : none ≡ some [] = h in cc
 tally-some counts from more (some rows) codes b e f h = ap (plates true) (e ∙ rw (b, f))
 
 -- ---- one segment on
 
-module _ (nand : List ℕ) (slots live : ℕ) (q : Query) (size : length nand ≡ slots * 16384) (r : Tallying) (sound : Sound slots (r .c))
+module _ (nand : List ℕ) (slots live : ℕ) (q : Query) (size : length nand ≡ slots * 16384) (r : Tallying)
+    (sound : Sound slots (r .c))
     (busy : r .done ≡ false) (good : r .n .good ≡ true) where
-  left : (o : Option (List (List ℕ))) → rowsAfter nand slots live q (r .c) ≡ o → tallyLeft nand slots live q r ≡ tallyOf (r .n .counts) o
+  left : (o : Option (List (List ℕ))) → rowsAfter nand slots live q (r .c) ≡ o
+      → tallyLeft nand slots live q r ≡ tallyOf (r .n .counts) o
   left o e = rw (busy, e)
 
   more : (most : ℕ) → NoneAbove most (r .n .counts) → NoneAbove (most + 320) (r .n .counts)
   more most h i = omega (arith, h i)
 
-  pub tally-end : advanceOf nand slots live q (r .c) ≡ End → TalliesOn nand slots live q r (record { done = true; c = r .c; n = r .n })
+  pub tally-end : advanceOf nand slots live q (r .c) ≡ End
+      → TalliesOn nand slots live q r (record { done = true; c = r .c; n = r .n })
   unfolding countedAll
   tally-end e =
       record {
-        leads = ap (λ (g : Bool). plates g (r .n .counts)) good ∙ sym (left (some []) (rows-end nand slots live q size (r .c) sound e));
+        leads =
+            ap (λ (g : Bool). plates g (r .n .counts)) good ∙ sym
+            (left (some []) (rows-end nand slots live q size (r .c) sound e));
         good = λ h. never h;
         sound = λ h. never h;
         falls = λ h. never h;
@@ -89,7 +94,8 @@ module _ (nand : List ℕ) (slots live : ℕ) (q : Query) (size : length nand �
       record {
         leads =
             tally-join (r .n .counts) (rowsAfter nand slots live q d) (closedRows nand s q) p is
-            ∙ sym (left (joinRows (rowsAfter nand slots live q d) (closedRows nand s q)) (rows-visit nand slots live q size (r .c) sound d s e));
+            ∙ sym (left (joinRows (rowsAfter nand slots live q d) (closedRows nand s q))
+            (rows-visit nand slots live q size (r .c) sound d s e));
         good = λ h. not-false (p .good) h;
         sound = λ h. f .sound;
         falls = λ h. f .falls;
@@ -106,7 +112,8 @@ pub record TallyGoes (nand : List ℕ) (slots live : ℕ) (q : Query) (all : Pla
   pub low : r .c .before ≤ top
   pub few : NoneAbove (320 + 320 * (top - r .c .before)) (r .n .counts)
 
-module _ (nand : List ℕ) (slots live : ℕ) (q : Query) (all : Plates) (top : ℕ) (r : Tallying) (i : TallyGoes nand slots live q all top r) where
+module _ (nand : List ℕ) (slots live : ℕ) (q : Query) (all : Plates) (top : ℕ) (r : Tallying)
+    (i : TallyGoes nand slots live q all top r) where
   pub tally-room : top < 2 ^ 32 → NoneAbove (2 ^ 63) (r .n .counts)
   tally-room h k = omega (arith, i .few k)
 
@@ -130,8 +137,10 @@ module _ (nand : List ℕ) (slots live : ℕ) (q : Query) (all : Plates) (top : 
         ended : all ≡ tallyLeft nand slots live q next → next .n ≡ all
         ended e = sym (e ∙ rw h)
 
-pub tally-starts : (nand : List ℕ) (slots live : ℕ) (q : Query) (c : Cursor) (counts : List ℕ) → Sound slots c → NoneAbove 320 counts
-    → TallyGoes nand slots live q (tallyOf counts (rowsAfter nand slots live q c)) (c .before) (record { done = false; c = c; n = plates true counts })
+pub tally-starts : (nand : List ℕ) (slots live : ℕ) (q : Query) (c : Cursor) (counts : List ℕ) → Sound slots c
+    → NoneAbove 320 counts
+    → TallyGoes nand slots live q (tallyOf counts (rowsAfter nand slots live q c)) (c .before)
+    (record { done = false; c = c; n = plates true counts })
 tally-starts nand slots live q c counts s h =
     record { busy = refl; good = refl; sound = s; leads = refl; low = omega arith; few = λ i. omega (arith, h i) }
 
@@ -144,17 +153,24 @@ plates-bad : (n : Plates) (o : Option (List (List ℕ))) → n ≡ tallyOf noCou
 plates-bad n none e h = refl
 plates-bad n (some rows) e h = never (sym (ap (λ (x : Plates). x .good) e) ∙ h)
 
-module _ (nand nor page : List ℕ) (g : Log) (q : Query) (c : Cursor) (n : Plates) (is : n ≡ tallyOf noCounts (openRows nand nor page g q)) where
+module _ (nand nor page : List ℕ) (g : Log) (q : Query) (c : Cursor) (n : Plates)
+    (is : n ≡ tallyOf noCounts (openRows nand nor page g q)) where
   pub first-few : NoneAbove 320 (n .counts)
   first-few i = rw is (few i)
     where
       few : (i : ℕ) → getD (tallyOf noCounts (openRows nand nor page g q) .counts) i 0 ≤ 320
-      few i = omega (arith, tally-few noCounts (openRows nand nor page g q) (open-few nand nor page g q) 0 (λ j. omega (arith, none-zero j)) i)
+      few i =
+          omega (
+            arith,
+            tally-few noCounts (openRows nand nor page g q) (open-few nand nor page g q) 0
+                (λ j. omega (arith, none-zero j)) i,
+          )
 
   pub tally-none : not (c .good && n .good) ≡ true → tallied 10 noCounts ≡ tallyAnswer (allRows nand nor page g q c)
   unfolding tallyAnswer
   tally-none e =
-      sym (ap tallyAnswer (all-none nand nor page g q c (n .good) (λ h. plates-bad n (openRows nand nor page g q) is h) (not-true _ e)))
+      sym (ap tallyAnswer (all-none nand nor page g q c (n .good) (λ h. plates-bad n (openRows nand nor page g q) is h)
+      (not-true _ e)))
 
   module _ (size : length nand ≡ g .slots * 16384) (begun : Begun g c) (e : not (c .good && n .good) ≡ false) (all : Plates)
       (all-are : all ≡ tallyOf (n .counts) (rowsAfter nand (g .slots) (g .live) q c)) where

@@ -33,14 +33,16 @@ rows-append [] b = refl
 rows-append (r ∷ a) b = ap (λ (l : List ℕ). r ++ l) (rows-append a b) ∙ sym (append-assoc r (rowBytes a) (rowBytes b))
 
 -- row k
-pub row-at : (w : ℕ) (rows : List (List ℕ)) → Wide w rows → (k : ℕ) (d : List ℕ) → k < length rows → part (rowBytes rows) (k * w) w ≡ getD rows k d
+pub row-at : (w : ℕ) (rows : List (List ℕ)) → Wide w rows → (k : ℕ) (d : List ℕ) → k < length rows
+    → part (rowBytes rows) (k * w) w ≡ getD rows k d
 unfolding rowBytes
 row-at w [] h k d l = absurd (omega arith)
 row-at w (r ∷ rows) h zero d l =
     let z : 0 * w ≡ 0 = omega arith in
     rw z (part-append-left r (rowBytes rows) 0 w (omega (arith, h .0)) ∙ part-all r w (h .0))
 row-at w (r ∷ rows) h (suc k) d l =
-    part-append-right r (rowBytes rows) (k * w) (suc k * w) w (omega (arith, h .0)) (room k (omega arith)) ∙ row-at w rows (h .1) k d (omega arith)
+    part-append-right r (rowBytes rows) (k * w) (suc k * w) w (omega (arith, h .0)) (room k (omega arith)) ∙ row-at w rows (h .1)
+    k d (omega arith)
   where
     room : (k : ℕ) → k < length rows → k * w + w ≤ length (rowBytes rows)
     room k l = omega (arith, length-rows w rows (h .1), mul-le-mul-right {m = suc k} w l)

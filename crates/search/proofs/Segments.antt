@@ -1,9 +1,10 @@
--- The rows of the closed segments from a cursor on, by its next step: serials fall, so more steps than the serial before change nothing.
+-- The rows of the closed segments from a cursor on, by its next step: serials fall, so more steps than the serial before change
+-- nothing.
 -- Assumes nothing.
 use mathlib.Core.Path.{_≡_, refl, sym, ap, _∙_}
 use mathlib.Core.Option.{Option, none, some}
-use mathlib.Core.List.{List, [], _∷_, _++_}
-use Prim.Native.Nat.{ℕ, zero, suc, _+_, _*_, _≤_, _<_}
+use mathlib.Core.List.{List, []}
+use Prim.Native.Nat.{ℕ, zero, suc, _+_, _*_, _<_}
 use native.Mathlib.Numerals.{add-one}
 use native.Mathlib.Omega.{arith}
 use lib.ListN.{length}
@@ -65,18 +66,23 @@ module _ (nand : List ℕ) (slots live : ℕ) (q : Query) (size : length nand �
       go End e f ih = from-step n c End e ∙ sym (from-step m c End e)
       go Damage e f ih = from-step n c Damage e ∙ sym (from-step m c Damage e)
       go (Pass d) e f ih =
-          from-step n c (Pass d) e ∙ ih d (f .sound) (omega (arith, f .falls)) (omega (arith, f .falls)) ∙ sym (from-step m c (Pass d) e)
+          from-step n c (Pass d) e ∙ ih d (f .sound) (omega (arith, f .falls)) (omega (arith, f .falls)) ∙ sym
+          (from-step m c (Pass d) e)
       go (Visit s d) e f ih =
           from-step n c (Visit s d) e
-          ∙ ap (λ (o : Option (List (List ℕ))). joinRows o (closedRows nand s q)) (ih d (f .1 .sound) (omega (arith, f .1 .falls)) (omega (arith, f .1 .falls)))
+          ∙ ap (λ (o : Option (List (List ℕ))). joinRows o (closedRows nand s q))
+          (ih d (f .1 .sound) (omega (arith, f .1 .falls)) (omega (arith, f .1 .falls)))
           ∙ sym (from-step m c (Visit s d) e)
 
   from-wide : (n : ℕ) (c : Cursor) → Sound slots c → WideIn (from n c)
   unfolding rowsFrom
   from-wide zero c sound = tt
-  from-wide (suc n) c sound = rw (from-step n c (advanceOf nand slots live q c) refl) (go (advanceOf nand slots live q c) (step-facts nand slots live q c size sound) (λ d. from-wide n d))
+  from-wide (suc n) c sound =
+      rw (from-step n c (advanceOf nand slots live q c) refl)
+      (go (advanceOf nand slots live q c) (step-facts nand slots live q c size sound) (λ d. from-wide n d))
     where
-      go : (s : Step) → StepFacts nand slots (c .before) s → ((d : Cursor) → Sound slots d → WideIn (from n d)) → WideIn (after (from n) s)
+      go : (s : Step) → StepFacts nand slots (c .before) s → ((d : Cursor) → Sound slots d → WideIn (from n d))
+          → WideIn (after (from n) s)
       go End f ih = tt
       go Damage f ih = tt
       go (Pass d) f ih = ih d (f .sound)
@@ -120,4 +126,5 @@ module _ (nand : List ℕ) (slots live : ℕ) (q : Query) (size : length nand �
         rows-visit =
             let f = visit-facts .1 in
             first (Visit s d) e
-            ∙ ap (λ (o : Option (List (List ℕ))). joinRows o (closedRows nand s q)) (enough (c .before) (d .before + 1) d (f .sound) (f .falls) (omega arith))
+            ∙ ap (λ (o : Option (List (List ℕ))). joinRows o (closedRows nand s q))
+            (enough (c .before) (d .before + 1) d (f .sound) (f .falls) (omega arith))

@@ -1,9 +1,10 @@
--- Counting by plate, lift by lift and segment by segment: the counts do not hang on the order, so the newest may come first. Assumes nothing.
+-- Counting by plate, lift by lift and segment by segment: the counts do not hang on the order, so the newest may come first.
+-- Assumes nothing.
 use mathlib.Core.Path.{_≡_, refl, sym, ap, _∙_}
 use mathlib.Core.Bool.{Bool, true, false, cond, not}
 use mathlib.Core.Option.{Option, none, some}
 use mathlib.Core.List.{List, [], _∷_, _++_, map}
-use Prim.Native.Nat.{ℕ, zero, suc, _+_, _-_, _*_, _^_, _≤_, _<_}
+use Prim.Native.Nat.{ℕ, zero, suc, _+_, _-_, _^_, _≤_, _<_}
 use native.Mathlib.Omega.{arith}
 use lib.Dec.{eqb, ltb}
 use lib.ListN.{length, getD, set, replicate, length-set, length-map, List·getD-eq-default}
@@ -45,7 +46,8 @@ unfolding countedAll countAt
 counted-place [] cs i h = omega arith
 counted-place (x ∷ codes) cs i h =
     let l : length (countedIn cs x) ≡ length cs = length-set cs _ _ in
-    counted-place codes (countedIn cs x) i (omega arith) ∙ one (eqb (plateOf (loadOf x)) i) (place-one cs (plateOf (loadOf x)) i h)
+    counted-place codes (countedIn cs x) i (omega arith) ∙ one (eqb (plateOf (loadOf x)) i)
+    (place-one cs (plateOf (loadOf x)) i h)
   where
     one : (t : Bool) → getD (countedIn cs x) i 0 ≡ getD cs i 0 + cond t 1 0
         → getD (countedIn cs x) i 0 + countAt i codes ≡ getD cs i 0 + cond t (suc (countAt i codes)) (countAt i codes)
@@ -144,7 +146,8 @@ tally-join counts none none more e = rw e
 tally-join counts (some older) none more e = rw e
 tally-join counts none (some newer) more e = rw e
 tally-join counts (some older) (some newer) more e =
-    rw e (ap (plates true) (counted-swap (rowCodes older) (rowCodes newer) counts ∙ ap (countedAll counts) (sym (codes-append older newer))))
+    rw e (ap (plates true) (counted-swap (rowCodes older) (rowCodes newer) counts ∙ ap (countedAll counts)
+    (sym (codes-append older newer))))
 
 pub tally-few : (counts : List ℕ) (newer : Option (List (List ℕ))) → FewIn newer → (most : ℕ) → NoneAbove most counts
     → NoneAbove (most + 320) (tallyOf counts newer .counts)

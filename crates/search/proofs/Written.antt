@@ -1,8 +1,9 @@
--- Writing rows: a set's records one after the other, a segment's rows up to an end, and from segment to segment backwards. Assumes nothing.
+-- Writing rows: a set's records one after the other, a segment's rows up to an end, and from segment to segment backwards.
+-- Assumes nothing.
 use mathlib.Core.Path.{_≡_, refl, sym, ap, _∙_}
-use mathlib.Core.Bool.{Bool, true, false, cond}
+use mathlib.Core.Bool.{true, false}
 use mathlib.Core.Option.{Option, none, some}
-use mathlib.Core.List.{List, [], _∷_, _++_, map}
+use mathlib.Core.List.{List, [], map}
 use Prim.Native.Nat.{ℕ, _+_, _-_, _*_, _≤_, _<_}
 use native.Mathlib.Omega.{arith}
 use lib.ListN.{length, length-append, length-map}
@@ -19,10 +20,9 @@ use Rattle.sweep.specs.Swept.{Recorded}
 use Rattle.walk.specs.declared.Closed.{Closed}
 use Rattle.walk.specs.declared.Cursor.{Cursor}
 use Rattle.walk.specs.declared.Query.{Query}
-use Rattle.walk.specs.declared.Step.{Step}
 use Rattle.walk.specs.declared.Step.the-variants.{End, Damage, Pass, Visit}
 use Rattle.walk.specs.Visit.{advanceOf, closedRows}
-use Rattle.walk.specs.Sound.{Sound, ClosedSound}
+use Rattle.walk.specs.Sound.{Sound}
 use Rattle.walk.proofs.Emptying.{emptied-more, emptied-all, emptied-below}
 use Rattle.search.specs.declared.Writing.{Writing}
 use Rattle.search.specs.Answers.{rowBytes}
@@ -37,13 +37,15 @@ use Rattle.search.proofs.Segments.{rows-end, rows-damage, pass-facts, r
 -- ---- the records of a set
 
 -- rows before `to` are written; with those of the rest the area comes to `all`
-pub record Puts (lifts tail : List ℕ) (g : Records) (all : List ℕ) (size : ℕ) (area : List ℕ) (rest : Bits) (to : ℕ) : Type 0 where
+pub record Puts (lifts tail : List ℕ) (g : Records) (all : List ℕ) (size : ℕ) (area : List ℕ) (rest : Bits)
+    (to : ℕ) : Type 0 where
   pub below : Below (g .count) (members (rest .words))
   pub room : (to + length (members (rest .words))) * 32 ≤ length area
   pub long : length area ≡ size
   pub leads : splice area (to * 32) (rowBytes (map (recordIn lifts tail (g .first)) (members (rest .words)))) ≡ all
 
-module _ (lifts tail : List ℕ) (g : Records) (r : Recorded lifts tail g) (all : List ℕ) (size : ℕ) (area : List ℕ) (rest : Bits) (to : ℕ)
+module _ (lifts tail : List ℕ) (g : Records) (r : Recorded lifts tail g) (all : List ℕ) (size : ℕ) (area : List ℕ) (rest : Bits)
+    (to : ℕ)
     (i : Puts lifts tail g all size area rest to) (n : Next) (is : n ≡ nextOf rest) where
   pub puts-over : n .found ≡ false → area ≡ all
   unfolding rowBytes
@@ -64,15 +66,18 @@ module _ (lifts tail : List ℕ) (g : Records) (r : Recorded lifts tail g) (all 
     unfolding rowBytes
     puts-more new f =
         let w = record-size lifts tail g r (n .at) puts-below in
-        let l : length new ≡ length area = ap length f ∙ length-splice area (to * 32) (recordIn lifts tail (g .first) (n .at)) (omega (arith, puts-room)) in
+        let l : length new ≡ length area = ap length f ∙ length-splice area (to * 32) (recordIn lifts tail (g .first) (n .at))
+        (omega (arith, puts-room)) in
         record {
           below = emptied-below rest n is (g .count) e (i .below) .1;
           room = omega (arith, i .room, count-is);
           long = l ∙ i .long;
           leads =
-              ap (λ (s : List ℕ). splice s ((to + 1) * 32) (rowBytes (map (recordIn lifts tail (g .first)) (members (n .rest .words))))) f
+              ap (λ (s : List ℕ). splice s ((to + 1) * 32) (rowBytes
+              (map (recordIn lifts tail (g .first)) (members (n .rest .words))))) f
               ∙ splice-next area (to * 32) (recordIn lifts tail (g .first) (n .at)) ((to + 1) * 32)
-              (rowBytes (map (recordIn lifts tail (g .first)) (members (n .rest .words)))) (omega arith) (omega (arith, puts-room))
+              (rowBytes (map (recordIn lifts tail (g .first)) (members (n .rest .words)))) (omega arith)
+              (omega (arith, puts-room))
               ∙ rw (emptied-more rest n is e) at (i .leads);
         }
 
@@ -85,13 +90,18 @@ module _ (f : ℕ → List ℕ) (ps : List ℕ) (rows : List (List ℕ)) (are : 
   pub written-up-to : (area new : List ℕ) (end : ℕ) → length rows ≤ end → new ≡ splice area ((end - n) * 32) (rowBytes (map f ps))
       → WrittenUpTo area new rows end (end - n)
   written-up-to area new end h e =
-      record { begins = omega (arith, as-many); are = e ∙ ap (λ (r : List (List ℕ)). splice area ((end - n) * 32) (rowBytes r)) are }
+      record {
+        begins = omega (arith, as-many);
+        are = e ∙ ap (λ (r : List (List ℕ)). splice area ((end - n) * 32) (rowBytes r))
+            are;
+      }
 
 pub written-none : (area : List ℕ) (end : ℕ) → WrittenUpTo area area [] end end
 unfolding rowBytes
 written-none area end = record { begins = omega arith; are = sym (splice-none area (end * 32)) }
 
-pub written-size : (area new : List ℕ) (rows : List (List ℕ)) (end r : ℕ) → Wide 32 rows → end * 32 ≤ length area → WrittenUpTo area new rows end r
+pub written-size : (area new : List ℕ) (rows : List (List ℕ)) (end r : ℕ) → Wide 32 rows → end * 32 ≤ length area
+    → WrittenUpTo area new rows end r
     → length new ≡ length area
 written-size area new rows end r w h u =
     let l = length-rows 32 rows w in
@@ -100,13 +110,15 @@ written-size area new rows end r w h u =
 
 -- ---- newer rows, then the older ones before them
 
-pub newer-fit : (row : ℕ) (older newer : Option (List (List ℕ))) → CountIs row (joinRows older newer) → length (rowsIn newer) ≤ row
+pub newer-fit : (row : ℕ) (older newer : Option (List (List ℕ))) → CountIs row (joinRows older newer)
+    → length (rowsIn newer) ≤ row
 newer-fit row none newer h = absurd h
 newer-fit row (some older) none h = absurd h
 newer-fit row (some older) (some newer) h = omega (arith, length-append older newer)
 
 module _ (area new : List ℕ) (row before : ℕ) (room : row * 32 ≤ length area) where
-  pub older-left : (older newer : Option (List (List ℕ))) → CountIs row (joinRows older newer) → WrittenUpTo area new (rowsIn newer) row before
+  pub older-left : (older newer : Option (List (List ℕ))) → CountIs row (joinRows older newer)
+      → WrittenUpTo area new (rowsIn newer) row before
       → CountIs before older
   older-left none newer h u = absurd h
   older-left (some older) none h u = absurd h
@@ -127,12 +139,15 @@ wide-in (some rows) w = w
 
 -- ---- one segment on
 
-module _ (nand : List ℕ) (slots live : ℕ) (q : Query) (size : length nand ≡ slots * 16384) (area : List ℕ) (w : Writing) (sound : Sound slots (w .c))
+module _ (nand : List ℕ) (slots live : ℕ) (q : Query) (size : length nand ≡ slots * 16384) (area : List ℕ) (w : Writing)
+    (sound : Sound slots (w .c))
     (busy : w .done ≡ false) (counts : CountIs (w .row) (rowsAfter nand slots live q (w .c))) where
-  left : (o : Option (List (List ℕ))) → rowsAfter nand slots live q (w .c) ≡ o → writeLeft nand slots live q area w ≡ writtenIn area o
+  left : (o : Option (List (List ℕ))) → rowsAfter nand slots live q (w .c) ≡ o
+      → writeLeft nand slots live q area w ≡ writtenIn area o
   left o e = rw (busy, e)
 
-  pub write-end : advanceOf nand slots live q (w .c) ≡ End → WritesOn nand slots live q area area w (record { done = true; c = w .c; row = w .row })
+  pub write-end : advanceOf nand slots live q (w .c) ≡ End
+      → WritesOn nand slots live q area area w (record { done = true; c = w .c; row = w .row })
   unfolding rowBytes
   write-end e =
       record {
@@ -144,7 +159,8 @@ module _ (nand : List ℕ) (slots live : ℕ) (q : Query) (size : length nand �
         falls = λ h. never h;
       }
 
-  pub write-damage : advanceOf nand slots live q (w .c) ≡ Damage → WritesOn nand slots live q area area w (record { done = true; c = w .c; row = w .row })
+  pub write-damage : advanceOf nand slots live q (w .c) ≡ Damage
+      → WritesOn nand slots live q area area w (record { done = true; c = w .c; row = w .row })
   write-damage e = let n : CountIs (w .row) none = rw (rows-damage nand slots live q size (w .c) sound e) at counts in absurd n
 
   pub write-pass : (d : Cursor) → advanceOf nand slots live q (w .c) ≡ Pass d
@@ -173,7 +189,8 @@ module _ (nand : List ℕ) (slots live : ℕ) (q : Query) (size : length nand �
       pub visit-size : length new ≡ length area
       visit-size =
           let k = visit-facts nand slots live q size (w .c) sound d s e .0 in
-          written-size area new (rowsIn (closedRows nand s q)) (w .row) before (wide-in (closedRows nand s q) (closed-wide nand s q k)) room u
+          written-size area new (rowsIn (closedRows nand s q)) (w .row) before
+          (wide-in (closedRows nand s q) (closed-wide nand s q k)) room u
 
       pub write-visit : WritesOn nand slots live q area new w (record { done = false; c = d; row = before })
       write-visit =
@@ -183,7 +200,8 @@ module _ (nand : List ℕ) (slots live : ℕ) (q : Query) (size : length nand �
             leads =
                 older-before area new (w .row) before room (rowsAfter nand slots live q d) (closedRows nand s q)
                 (rows-wide nand slots live q size d (f .sound)) parts u
-                ∙ sym (left (joinRows (rowsAfter nand slots live q d) (closedRows nand s q)) (rows-visit nand slots live q size (w .c) sound d s e));
+                ∙ sym (left (joinRows (rowsAfter nand slots live q d) (closedRows nand s q))
+                (rows-visit nand slots live q size (w .c) sound d s e));
             size = visit-size;
             counts = λ h. older-left area new (w .row) before room (rowsAfter nand slots live q d) (closedRows nand s q) parts u;
             fewer = omega arith;
@@ -193,7 +211,8 @@ module _ (nand : List ℕ) (slots live : ℕ) (q : Query) (size : length nand �
 
 -- ---- rows on their way
 
-pub record WriteGoes (nand : List ℕ) (slots live : ℕ) (q : Query) (all : List ℕ) (size : ℕ) (area : List ℕ) (w : Writing) : Type 0 where
+pub record WriteGoes (nand : List ℕ) (slots live : ℕ) (q : Query) (all : List ℕ) (size : ℕ) (area : List ℕ)
+    (w : Writing) : Type 0 where
   pub busy : w .done ≡ false
   pub sound : Sound slots (w .c)
   pub counts : CountIs (w .row) (rowsAfter nand slots live q (w .c))
@@ -202,13 +221,22 @@ pub record WriteGoes (nand : List ℕ) (slots live : ℕ) (q : Query) (all : Lis
   pub leads : writeLeft nand slots live q area w ≡ all
 
 module _ (nand : List ℕ) (slots live : ℕ) (q : Query) (all : List ℕ) (size : ℕ) (area : List ℕ) (w : Writing)
-    (i : WriteGoes nand slots live q all size area w) (new : List ℕ) (next : Writing) (o : WritesOn nand slots live q area new w next) where
+    (i : WriteGoes nand slots live q all size area w) (new : List ℕ) (next : Writing)
+    (o : WritesOn nand slots live q area new w next) where
   pub write-again : next .done ≡ false → WriteGoes nand slots live q all size new next
   write-again h =
       let f = o .fewer in
       let l = o .size in
       let b = i .room in
-      record { busy = h; sound = o .sound h; counts = o .counts h; room = omega arith; long = l ∙ i .long; leads = o .leads ∙ i .leads }
+      record {
+        busy = h;
+        sound = o .sound h;
+        counts = o .counts h;
+        room = omega arith;
+        long = l ∙ i .long;
+        leads = o .leads ∙
+            i .leads;
+      }
 
   pub write-over : next .done ≡ true → new ≡ all
   write-over h = ended (sym (o .leads ∙ i .leads))

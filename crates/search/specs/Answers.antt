@@ -1,5 +1,5 @@
 -- The answers of a search and of a tally (document 01, "Search", "Plates", grounds 10 and 12). Assumes nothing.
-use mathlib.Core.Bool.{Bool, cond}
+use mathlib.Core.Bool.{cond}
 use mathlib.Core.Option.{Option, none, some}
 use mathlib.Core.List.{List, [], _∷_, _++_, map}
 use Prim.Native.Nat.{ℕ, _/_}
@@ -20,7 +20,8 @@ pub record SearchAnswer : Type 0 where
   pub count : ℕ
   pub area : List ℕ
 
--- "10. Damage is met." "12. The lifts found outnumber the whole 32-byte rows of the result area." "the rows go out as records ..; the rest
+-- "10. Damage is met." "12. The lifts found outnumber the whole 32-byte rows of the result area." "the rows go out as records
+-- ..; the rest
 -- of the result area keeps its bytes"
 unfoldable pub searchAnswer : List ℕ → Option (List (List ℕ)) → SearchAnswer
 searchAnswer area none = record { number = 10; count = 0; area = area }

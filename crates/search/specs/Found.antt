@@ -1,13 +1,13 @@
--- What a search finds over all segments (document 01, "Search"): rows "by serial and then position, so oldest first over all segments".
+-- What a search finds over all segments (document 01, "Search"): rows "by serial and then position, so oldest first over all
+-- segments".
 -- Assumes nothing.
-use mathlib.Core.Bool.{Bool, true, false, cond}
+use mathlib.Core.Bool.{cond}
 use mathlib.Core.Option.{Option, none, some}
-use mathlib.Core.List.{List, [], _∷_, _++_}
+use mathlib.Core.List.{List, [], _++_}
 use Prim.Native.Nat.{ℕ, zero, suc, _+_}
 use Rattle.walk.specs.declared.Cursor.{Cursor}
 use Rattle.walk.specs.declared.Log.{Log}
 use Rattle.walk.specs.declared.Query.{Query}
-use Rattle.walk.specs.declared.Step.{Step}
 use Rattle.walk.specs.declared.Step.the-variants.{End, Damage, Pass, Visit}
 use Rattle.walk.specs.Seek.{startOf}
 use Rattle.walk.specs.Visit.{advanceOf, closedRows, openRows}
@@ -18,7 +18,8 @@ joinRows none newer = none
 joinRows (some older) none = none
 joinRows (some older) (some newer) = some (older ++ newer)
 
--- the rows of the closed segments from a cursor on, in n steps; serials fall, so as many steps as the serial before says are enough
+-- the rows of the closed segments from a cursor on, in n steps; serials fall, so as many steps as the serial before says are
+-- enough
 unfoldable pub rowsFrom : ℕ → List ℕ → ℕ → ℕ → Query → Cursor → Option (List (List ℕ))
 rowsFrom zero nand slots live q c = some []
 rowsFrom (suc n) nand slots live q c =

@@ -43,7 +43,8 @@ countOf total (some rows) = record { good = true; total = total + length rows }
 
 -- a count with the matches of a segment
 abbrev pub countedWith : ℕ → Sweep → Counted
-countedWith total m = cond (m .good) (record { good = true; total = total + length (members (m .set .words)) }) (record { good = false; total = 0 })
+countedWith total m =
+    cond (m .good) (record { good = true; total = total + length (members (m .set .words)) }) (record { good = false; total = 0 })
 
 module _ (nand : List ℕ) (slots live : ℕ) (q : Query) where
   -- what a count comes to

@@ -24,7 +24,7 @@ use Rattle.store.specs.World.{world, closing, movedOn, closeWorld, dropW
 use Rattle.store.specs.Calls.{boundsGround, dropDamage, renewal}
 use Rattle.store.specs.Pieces.{dropsFirst, forcedGood, dropDue}
 use Rattle.store.proofs.Grounds.{Standing, standing}
-use Rattle.store.proofs.Slots.{slots-differ, slot-below}
+use Rattle.flash.proofs.Slots.{slots-differ, slot-below}
 
 -- ---- after a close
 

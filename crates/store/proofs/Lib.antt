@@ -2,7 +2,6 @@ pub mod Rows
 pub mod Grounds
 pub mod Steps
 pub mod Outcomes
-pub mod Slots
 pub mod Putting
 pub mod Forced
 pub mod Blocked

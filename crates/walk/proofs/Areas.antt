@@ -1,7 +1,8 @@
--- The records and buckets of a segment lie within its areas: the open segment's in NAND, NOR and the page buffer. Assumes nothing.
-use mathlib.Core.Path.{_≡_, refl, sym, ap, _∙_}
+-- The records and buckets of a segment lie within its areas: the open segment's in NAND, NOR and the page buffer. Assumes
+-- nothing.
+use mathlib.Core.Path.{_≡_, _∙_}
 use mathlib.Core.List.{List}
-use Prim.Native.Nat.{ℕ, _+_, _-_, _*_, _%_, _≤_, _<_}
+use Prim.Native.Nat.{ℕ, _+_, _-_, _*_, _<_}
 use native.Mathlib.Nat.{mod-lt}
 use native.Mathlib.Omega.{arith}
 use lib.ListN.{length}
@@ -28,7 +29,8 @@ module _ (nand : List ℕ) (s : Closed) (sound : ClosedSound nand s) where
       let l = closed-size in
       record { few = sound .most; before = omega arith; after = omega arith; any = omega arith }
 
-  module _ (t l : List ℕ) (t-is : t ≡ pagesOf nand (s .slot) 20 9) (l-is : l ≡ closedLifts nand s) (r : Records) (r-is : r ≡ closedRecords s) where
+  module _ (t l : List ℕ) (t-is : t ≡ pagesOf nand (s .slot) 20 9) (l-is : l ≡ closedLifts nand s) (r : Records)
+      (r-is : r ≡ closedRecords s) where
     pub closed-held : Held t l l r
     closed-held =
         let n : length (pagesOf nand (s .slot) 20 9) ≡ 4608 = length-part nand (s .slot * 16384 + 10240) 4608 (omega arith) in

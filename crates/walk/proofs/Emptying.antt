@@ -31,7 +31,8 @@ module _ (rest : Bits) (n : Next) (is : n ≡ nextOf rest) where
   pub emptied-less : n .found ≡ true → length (members (n .rest .words)) < length (members (rest .words))
   emptied-less e = rw (emptied-more e) (omega arith)
 
-  pub emptied-below : (count : ℕ) → n .found ≡ true → Below count (members (rest .words)) → (n .at < count) × Below count (members (n .rest .words))
+  pub emptied-below : (count : ℕ) → n .found ≡ true → Below count (members (rest .words))
+      → (n .at < count) × Below count (members (n .rest .words))
   emptied-below count e b = rw (emptied-more e) at b
 
 -- ---- those that pass a test
@@ -66,7 +67,8 @@ module _ (f : ℕ → Bool) where
     unfolding insertAll
     kept-all e = rw (emptied-all rest n is e) at k
 
-    pub kept-in : n .found ≡ true → f (n .at) ≡ true → (more : Bits) → more .words ≡ insertIn (kept .words) (n .at) → Kept f all (n .rest) more
+    pub kept-in : n .found ≡ true → f (n .at) ≡ true → (more : Bits) → more .words ≡ insertIn (kept .words) (n .at)
+        → Kept f all (n .rest) more
     unfolding insertAll
     kept-in e t more m = rw m (rw (emptied-more rest n is e, t) at k)
 

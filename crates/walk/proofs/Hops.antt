@@ -1,4 +1,5 @@
--- The skip walk: a hop as the code makes it, hops beyond serial and level that change nothing, and pointers that stay in their slots.
+-- The skip walk: a hop as the code makes it, hops beyond serial and level that change nothing, and pointers that stay in their
+-- slots.
 -- Assumes nothing.
 use mathlib.Core.Path.{_≡_, refl, sym, ap, _∙_}
 use mathlib.Core.Bool.{Bool, true, false, cond, not, _&&_, _||_}
@@ -8,11 +9,11 @@ use native.Mathlib.Omega.{arith}
 use lib.Dec.{eqb, ltb, leb}
 use lib.ListN.{length, getD}
 use borrow.Author.Tests.{ltb-true, not-true, not-false}
-use Rattle.flash.specs.Chip.{pageOf, pagesOf}
+use Rattle.flash.specs.Chip.{pageOf}
 use Rattle.skiplist.specs.declared.Pointer.{Pointer}
 use Rattle.skiplist.specs.Skip.{none, isNone, isLive, inSlots}
 use Rattle.segment.specs.declared.Header.{Header}
-use Rattle.segment.specs.Header.{headerIn, headerGood}
+use Rattle.segment.specs.Header.{headerIn}
 use Rattle.segment.proofs.HeaderFacts.{HeaderFacts, header-facts, good-slots}
 use Rattle.walk.specs.declared.Cursor.{Cursor}
 use Rattle.walk.specs.declared.Log.{Log}
@@ -28,7 +29,8 @@ same-default (a ∷ l) zero d e h = refl
 same-default (a ∷ l) (suc k) d e h = same-default l k d e (omega arith)
 
 -- a header without damage
-pub header-good : (nand : List ℕ) (slots before : ℕ) (p : Pointer) (h : Header) → h ≡ headerAt nand slots p before → h .good ≡ true
+pub header-good : (nand : List ℕ) (slots before : ℕ) (p : Pointer) (h : Header) → h ≡ headerAt nand slots p before
+    → h .good ≡ true
     → HeaderFacts h slots before
 unfolding headerIn
 header-good nand slots before p h is good =
@@ -39,7 +41,8 @@ pub live-inside : (size slots live : ℕ) (p : Pointer) → size ≡ slots * 163
     → p .slot * 16384 + 16384 ≤ size
 live-inside size slots live p e i l = go (isNone p) (ltb (p .slot) slots) refl i l
   where
-    go : (n b : Bool) → ltb (p .slot) slots ≡ b → (n || b) ≡ true → (not n && leb live (p .time)) ≡ true → p .slot * 16384 + 16384 ≤ size
+    go : (n b : Bool) → ltb (p .slot) slots ≡ b → (n || b) ≡ true → (not n && leb live (p .time)) ≡ true
+        → p .slot * 16384 + 16384 ≤ size
     go true b f i l = let z : false ≡ true = l in let y : _≡_ {A = ℕ} 0 1 = cc in absurd (omega arith)
     go false true f i l = omega (arith, ltb-true (p .slot) slots f)
     go false false f i l = let z : false ≡ true = i in let y : _≡_ {A = ℕ} 0 1 = cc in absurd (omega arith)
@@ -57,7 +60,8 @@ module _ (nand : List ℕ) (slots live t2 : ℕ) (w : SkipWalk) (k : ℕ) (p : P
   goes b e = rw (← is, ← live-is) e
 
   pub hop-down : not (a && ltb t2 (p .time)) ≡ true
-      → _≡_ {A = SkipWalk} (record { good = true; level = k; before = w .before; pointers = w .pointers }) (hopAt nand slots live t2 w k)
+      → _≡_ {A = SkipWalk} (record { good = true; level = k; before = w .before; pointers = w .pointers })
+      (hopAt nand slots live t2 w k)
   unfolding hopAt
   hop-down e = let g = goes false (not-true _ e) in rw g
 
@@ -72,12 +76,14 @@ module _ (nand : List ℕ) (slots live t2 : ℕ) (w : SkipWalk) (k : ℕ) (p : P
     read = sym (h-is ∙ rw (page-is, is))
 
     pub hop-on : (level : ℕ) → level ≡ suc k → h .good ≡ true
-        → _≡_ {A = SkipWalk} (record { good = true; level = level; before = h .serial; pointers = h .next }) (hopAt nand slots live t2 w k)
+        → _≡_ {A = SkipWalk} (record { good = true; level = level; before = h .serial; pointers = h .next })
+        (hopAt nand slots live t2 w k)
     unfolding hopAt
     hop-on level e good = let g = goes true (not-false _ onward) in let r = read in rw (g, r, good, e)
 
     pub hop-spoilt : h .good ≡ false
-        → _≡_ {A = SkipWalk} (record { good = false; level = 0; before = h .serial; pointers = h .next }) (hopAt nand slots live t2 w k)
+        → _≡_ {A = SkipWalk} (record { good = false; level = 0; before = h .serial; pointers = h .next })
+        (hopAt nand slots live t2 w k)
     unfolding hopAt
     hop-spoilt bad = let g = goes true (not-false _ onward) in let r = read in rw (g, r, bad)
 
@@ -114,14 +120,22 @@ module _ (nand : List ℕ) (slots live t2 : ℕ) where
   -- a hop by its three cases
   hop-cases : (P : SkipWalk → Type 0) (w : SkipWalk) (k : ℕ)
       → P (record { good = true; level = k; before = w .before; pointers = w .pointers })
-      → (header w k .good ≡ true → P (record { good = true; level = suc k; before = header w k .serial; pointers = header w k .next }))
+      → (header w k .good ≡ true
+      → P (record { good = true; level = suc k; before = header w k .serial; pointers = header w k .next }))
       → P (record { good = false; level = 0; before = header w k .serial; pointers = header w k .next })
       → P (next w k)
   unfolding hopAt
-  hop-cases P w k down onward bad = go (isLive (getD (w .pointers) k none) live && ltb t2 (getD (w .pointers) k none .time)) (header w k .good) refl
+  hop-cases P w k down onward bad =
+      go (isLive (getD (w .pointers) k none) live && ltb t2 (getD (w .pointers) k none .time)) (header w k .good) refl
     where
       go : (q b : Bool) → header w k .good ≡ b → P (cond q
-          (record { good = header w k .good; level = cond (header w k .good) (suc k) 0; before = header w k .serial; pointers = header w k .next })
+          (record {
+            good = header w k .good;
+            level = cond (header w k .good) (suc k) 0;
+            before = header w k .serial;
+            pointers =
+                header w k .next;
+          })
           (record { good = true; level = k; before = w .before; pointers = w .pointers }))
       go false b e = down
       go true true e = rw e (onward e)
@@ -175,7 +189,8 @@ module _ (nand : List ℕ) (slots live t2 : ℕ) where
     where
       go : (l : ℕ) → w .level ≡ l
           → ((v : SkipWalk) → hopsLeft v ≤ n → hopsLeft v ≤ m → hops n nand slots live t2 v ≡ hops m nand slots live t2 v)
-          → hops n nand slots live t2 (hop nand slots live t2 w (w .level)) ≡ hops m nand slots live t2 (hop nand slots live t2 w (w .level))
+          → hops n nand slots live t2 (hop nand slots live t2 w (w .level))
+          ≡ hops m nand slots live t2 (hop nand slots live t2 w (w .level))
       go zero e ih = ended (suc n) w e ∙ sym (ended (suc m) w e)
       go (suc k) e ih =
           let f = hop-falls w k in
@@ -220,9 +235,12 @@ unfolding startOf skipWalk
 start-begun nand g q h = go (not (eqb (g .count) 0) && leb (g .start) (q .t1))
   where
     v : Walked (g .slots) (g .current) (skipWalk nand g (q .t2))
-    v = walked-on nand (g .slots) (g .live) (q .t2) (g .current + 4) (g .current) _ (walk-starts (g .slots) (g .current) (g .heads) h)
+    v =
+        walked-on nand (g .slots) (g .live) (q .t2) (g .current + 4) (g .current) _
+        (walk-starts (g .slots) (g .current) (g .heads) h)
 
-    go : (b : Bool) → Begun g (cond b (record { good = true; last = true; next = none; before = g .current }) (reachedBy (skipWalk nand g (q .t2))))
+    go : (b : Bool) → Begun g (cond b (record { good = true; last = true; next = none; before = g .current })
+        (reachedBy (skipWalk nand g (q .t2))))
     go true = record { sound = λ e. refl; before-most = λ e. omega arith }
     go false = record { sound = λ e. v .pointed (not-false _ e) 0; before-most = v .falling }
 

@@ -1,12 +1,12 @@
--- The matches of one segment: positions below its count, kept by their times, and read back from their set as they are. Assumes nothing.
+-- The matches of one segment: positions below its count, kept by their times, and read back from their set as they are. Assumes
+-- nothing.
 use mathlib.Core.Path.{_≡_, refl, sym, ap, _∙_}
 use mathlib.Core.Bool.{Bool, true, false, cond, not, _&&_, _||_}
 use mathlib.Core.Option.{Option, none, some}
 use mathlib.Core.List.{List, [], _∷_, _++_}
-use Prim.Native.Nat.{ℕ, zero, suc, _+_, _*_, _≤_, _<_}
+use Prim.Native.Nat.{ℕ, zero, suc, _+_, _≤_, _<_}
 use native.Mathlib.Omega.{arith}
 use lib.Dec.{eqb, leb, ltb}
-use lib.ListN.{length}
 use borrow.Author.Tests.{ltb-true, eqb-true, eqb-false, ne-eqb, not-true, not-false}
 use Rattle.bitset.specs.declared.Bits.{Bits}
 use Rattle.bitset.specs.Set.{emptyWords, insertAll, members, picked, has, elem}
@@ -18,7 +18,6 @@ use Rattle.tree.specs.Reading.{kidsOf, kidsGood, positionsGood, nodeGood, Node}
 use Rattle.tree.specs.Search.{within, hits, reached}
 use Rattle.tree.specs.Sweep.{andThen, nodeAt, visitGood, sweepFrom, sweepOn, recordsGood}
 use Rattle.sweep.specs.declared.Records.{Records}
-use Rattle.sweep.specs.declared.Range.{Range}
 use Rattle.sweep.specs.declared.Sweep.{Sweep}
 use Rattle.sweep.specs.Swept.{sweptFrom, sweptOf}
 use Rattle.tree.proofs.Clears.{both}
@@ -49,7 +48,8 @@ unfolding picked
 below-picked n f from zero h = tt
 below-picked n f from (suc m) h = go (f from) refl (below-picked n f (suc from) m h)
   where
-    go : (t : Bool) → f from ≡ t → Below n (picked f (suc from) m) → Below n (cond t (from ∷ picked f (suc from) m) (picked f (suc from) m))
+    go : (t : Bool) → f from ≡ t → Below n (picked f (suc from) m)
+        → Below n (cond t (from ∷ picked f (suc from) m) (picked f (suc from) m))
     go true e b = (h from e, b)
     go false e b = b
 
@@ -58,7 +58,8 @@ below-picked n f from (suc m) h = go (f from) refl (below-picked n f (suc from) 
 hits-below : (count k1 k2 : ℕ) (es : List Entry) → positionsGood count es ≡ true → Below count (hits k1 k2 es)
 unfolding positionsGood hits
 hits-below count k1 k2 [] e = tt
-hits-below count k1 k2 (x ∷ es) e = go (within k1 k2 (x .load)) (hits-below count k1 k2 es (both (ltb (x .position) count) _ e .1))
+hits-below count k1 k2 (x ∷ es) e =
+    go (within k1 k2 (x .load)) (hits-below count k1 k2 es (both (ltb (x .position) count) _ e .1))
   where
     go : (t : Bool) → Below count (hits k1 k2 es) → Below count (cond t (x .position ∷ hits k1 k2 es) (hits k1 k2 es))
     go true b = (ltb-true _ _ (both (ltb (x .position) count) _ e .0), b)
@@ -74,13 +75,16 @@ module _ (area : List ℕ) (buckets count : ℕ) (recorded : ℕ → ℕ) (k1 k2
   then-below ps none b c = tt
   then-below ps (some qs) b c = below-append count ps qs b c
 
-  visit-below : (b : ℕ) → visitGood area buckets count recorded k1 k2 b ≡ true → Below count (hits k1 k2 (nodeAt area buckets count recorded k1 k2 b .entries))
+  visit-below : (b : ℕ) → visitGood area buckets count recorded k1 k2 b ≡ true
+      → Below count (hits k1 k2 (nodeAt area buckets count recorded k1 k2 b .entries))
   unfolding nodeGood
   visit-below b e =
       let n : Node = nodeAt area buckets count recorded k1 k2 b in
-      let g : nodeGood n b buckets count ≡ true = both (nodeGood n b buckets count) (recordsGood recorded k1 k2 (n .entries)) e .0 in
+      let g : nodeGood n b buckets count ≡ true = both (nodeGood n b buckets count) (recordsGood recorded k1 k2 (n .entries))
+      e .0 in
       hits-below count k1 k2 (n .entries)
-      (both (ltb (n .x) (n .y) && leb (n .y) 150001 && kidsGood b buckets (n .x) (n .y) (kidsOf n)) (positionsGood count (n .entries)) g .1)
+      (both (ltb (n .x) (n .y) && leb (n .y) 150001 && kidsGood b buckets (n .x) (n .y) (kidsOf n))
+      (positionsGood count (n .entries)) g .1)
 
   from-below : (n b : ℕ) (r : ℕ → Bool) → AllBelow count (sweepFrom area buckets count recorded k1 k2 n b r)
   unfolding sweepFrom
@@ -91,7 +95,8 @@ module _ (area : List ℕ) (buckets count : ℕ) (recorded : ℕ → ℕ) (k1 k2
           → ((s : ℕ → Bool) → AllBelow count (sweepFrom area buckets count recorded k1 k2 n (suc b) s))
           → AllBelow count (cond (cond t (visitGood area buckets count recorded k1 k2 b) true)
           (andThen (cond t (hits k1 k2 (nodeAt area buckets count recorded k1 k2 b .entries)) [])
-          (sweepFrom area buckets count recorded k1 k2 n (suc b) (cond t (reached k1 k2 (kidsOf (nodeAt area buckets count recorded k1 k2 b)) r) r)))
+          (sweepFrom area buckets count recorded k1 k2 n (suc b)
+          (cond t (reached k1 k2 (kidsOf (nodeAt area buckets count recorded k1 k2 b)) r) r)))
           none)
       go false v e ih = then-below [] (sweepFrom area buckets count recorded k1 k2 n (suc b) r) tt (ih r)
       go true true e ih =
@@ -127,8 +132,10 @@ module _ (count : ℕ) (time : ℕ → ℕ) (q : Query) (s : Sweep) (most : coun
   good none a e g kept k = absurd-bool (sym g ∙ ap (λ (x : Sweep). x .good) e)
   good (some ps) a e g kept k =
       ap (λ (ws : List ℕ). record { good = true; set = record { words = ws } })
-      (k ∙ ap (insertAll emptyWords) (picked-same (λ p. has (s .set .words) p && timely q (time p)) (λ p. elem p ps && timely q (time p)) 0 320 (λ p u v.
-      ap (λ (b : Bool). b && timely q (time p)) (ap (λ (x : Sweep). has (x .set .words) p) e ∙ has-inserted-all ps p (below-more count 320 ps most a)))))
+      (k ∙ ap (insertAll emptyWords) (picked-same (λ p. has (s .set .words) p && timely q (time p))
+      (λ p. elem p ps && timely q (time p)) 0 320 (λ p u v.
+      ap (λ (b : Bool). b && timely q (time p)) (ap (λ (x : Sweep). has (x .set .words) p) e ∙ has-inserted-all ps p
+      (below-more count 320 ps most a)))))
 
 module _ (tree lifts tail : List ℕ) (g : Records) (q : Query) (most : g .count ≤ 320) (s : Sweep)
     (is : s ≡ sweptOf tree lifts tail g (record { k1 = q .k1; k2 = q .k2 })) where
@@ -138,7 +145,8 @@ module _ (tree lifts tail : List ℕ) (g : Records) (q : Query) (most : g .count
   found-below : AllBelow (g .count) found
   found-below = sweep-below tree (g .buckets) (g .count) (codeIn lifts tail (g .first)) (q .k1) (q .k2)
 
-  pub matched-none : not (s .good) ≡ true → s ≡ sweptFrom emptyWords (matchesOf tree lifts tail (g .first) (g .count) (g .buckets) q)
+  pub matched-none : not (s .good) ≡ true
+      → s ≡ sweptFrom emptyWords (matchesOf tree lifts tail (g .first) (g .count) (g .buckets) q)
   unfolding sweptOf matchesOf
   matched-none b = bad (g .count) (timeIn lifts tail (g .first)) q s most found is (not-true _ b)
 
@@ -160,7 +168,8 @@ unfolding picked elem
 elem-before f from zero p h = refl
 elem-before f from (suc n) p h = go (f from) (elem-before f (suc from) n p (omega arith))
   where
-    go : (t : Bool) → elem p (picked f (suc from) n) ≡ false → elem p (cond t (from ∷ picked f (suc from) n) (picked f (suc from) n)) ≡ false
+    go : (t : Bool) → elem p (picked f (suc from) n) ≡ false
+        → elem p (cond t (from ∷ picked f (suc from) n) (picked f (suc from) n)) ≡ false
     go true e = rw (ne-eqb p from (λ z. omega arith), e)
     go false e = e
 
@@ -180,9 +189,11 @@ elem-picked f from (suc n) p l h = go (f from) refl (eqb p from) refl (elem-pick
 range-below : (f : ℕ → Bool) (from n : ℕ) → Below (from + n) (picked f from n)
 unfolding picked
 range-below f from zero = tt
-range-below f from (suc n) = go (f from) (below-more (suc from + n) (from + suc n) (picked f (suc from) n) (omega arith) (range-below f (suc from) n))
+range-below f from (suc n) =
+    go (f from) (below-more (suc from + n) (from + suc n) (picked f (suc from) n) (omega arith) (range-below f (suc from) n))
   where
-    go : (t : Bool) → Below (from + suc n) (picked f (suc from) n) → Below (from + suc n) (cond t (from ∷ picked f (suc from) n) (picked f (suc from) n))
+    go : (t : Bool) → Below (from + suc n) (picked f (suc from) n)
+        → Below (from + suc n) (cond t (from ∷ picked f (suc from) n) (picked f (suc from) n))
     go true b = (omega arith, b)
     go false b = b
 
@@ -191,10 +202,12 @@ abbrev pub Places : ℕ → Option (List ℕ) → Type 0
 Places count none = Unit {0}
 Places count (some ps) = Below count ps × (members (insertAll emptyWords ps) ≡ ps)
 
-pub matches-places : (tree lifts tail : List ℕ) (first count buckets : ℕ) (q : Query) → Places count (matchesOf tree lifts tail first count buckets q)
+pub matches-places : (tree lifts tail : List ℕ) (first count buckets : ℕ) (q : Query)
+    → Places count (matchesOf tree lifts tail first count buckets q)
 unfolding matchesOf timed
 matches-places tree lifts tail first count buckets q =
-    go (sweepOn tree buckets count (codeIn lifts tail first) (q .k1) (q .k2)) (sweep-below tree buckets count (codeIn lifts tail first) (q .k1) (q .k2))
+    go (sweepOn tree buckets count (codeIn lifts tail first) (q .k1) (q .k2))
+    (sweep-below tree buckets count (codeIn lifts tail first) (q .k1) (q .k2))
   where
     go : (o : Option (List ℕ)) → AllBelow count o → Places count (timedOf (timeIn lifts tail first) q o)
     go none a = tt

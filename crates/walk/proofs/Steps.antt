@@ -1,21 +1,20 @@
--- From one closed segment to the next: each step as the code makes it, and what it leads to, with a serial that falls. Assumes nothing.
-use mathlib.Core.Path.{_≡_, refl, sym, ap, _∙_}
-use mathlib.Core.Bool.{Bool, true, false, cond, not, _&&_, _||_}
+-- From one closed segment to the next: each step as the code makes it, and what it leads to, with a serial that falls. Assumes
+-- nothing.
+use mathlib.Core.Path.{_≡_, refl, sym, _∙_}
+use mathlib.Core.Bool.{Bool, true, false, cond, not, _||_}
 use mathlib.Core.List.{List}
 use Prim.Native.Nat.{ℕ, _+_, _*_, _≤_, _<_}
-use native.Mathlib.Omega.{arith}
-use lib.Dec.{eqb, ltb, leb}
+use lib.Dec.{ltb, leb}
 use lib.ListN.{length, getD}
-use borrow.Author.Tests.{not-true, not-false, lt-ltb, le-ltb}
+use borrow.Author.Tests.{not-false, lt-ltb, le-ltb}
 use Rattle.flash.specs.Chip.{pageOf, pagesOf}
 use Rattle.bloom.specs.Bloom.{mayHold}
 use Rattle.bloom.specs.Pages.{sectionCount, sectionsIn}
 use Rattle.skiplist.specs.declared.Pointer.{Pointer}
-use Rattle.skiplist.specs.Skip.{none, isLive, inSlots}
+use Rattle.skiplist.specs.Skip.{none, isLive}
 use Rattle.segment.specs.declared.Header.{Header}
 use Rattle.segment.specs.Header.{headerIn}
 use Rattle.segment.proofs.HeaderFacts.{HeaderFacts, good-slots}
-use Rattle.walk.specs.declared.Closed.{Closed}
 use Rattle.walk.specs.declared.Cursor.{Cursor}
 use Rattle.walk.specs.declared.Query.{Query}
 use Rattle.walk.specs.declared.Step.{Step}
@@ -37,7 +36,8 @@ module _ (nand : List ℕ) (slot : ℕ) (h : Header) (q : Query) where
   passed-not e l = rw (e, lt-ltb (q .k1) (q .k2) l)
 
   pub passed-bloom : (ltb (h .high) (q .k1) || ltb (q .k2) (h .low)) ≡ false → q .k2 ≤ q .k1
-      → (pages : List ℕ) → pages ≡ pagesOf nand slot 29 2 → (b : Bool) → b ≡ mayHold (sectionsIn pages (sectionCount (h .count))) (q .k1)
+      → (pages : List ℕ) → pages ≡ pagesOf nand slot 29 2 → (b : Bool)
+      → b ≡ mayHold (sectionsIn pages (sectionCount (h .count))) (q .k1)
       → not b ≡ isPassed nand slot h q
   unfolding isPassed
   passed-bloom e l pages p b is = rw (e, le-ltb (q .k1) (q .k2) l, ← p, is)
@@ -88,7 +88,9 @@ module _ (nand : List ℕ) (slots live : ℕ) (q : Query) (c : Cursor) (a : Bool
           unfolding advanceOf
           advance-pass e = let f = ends false onward in let p = sym passed-is ∙ e in rw (f, ← read, good, p, first-is)
 
-          pub advance-visit : passed ≡ false → Visit (record { slot = c .next .slot; count = h .count; buckets = h .buckets }) after ≡ advanceOf nand slots live q c
+          pub advance-visit : passed ≡ false
+              → Visit (record { slot = c .next .slot; count = h .count; buckets = h .buckets }) after
+              ≡ advanceOf nand slots live q c
           unfolding advanceOf
           advance-visit e = let f = ends false onward in let p = sym passed-is ∙ e in rw (f, ← read, good, p, first-is)
 
@@ -105,7 +107,8 @@ StepFacts nand slots before Damage = Unit {0}
 StepFacts nand slots before (Pass d) = CursorFacts slots before d
 StepFacts nand slots before (Visit s d) = ClosedSound nand s × CursorFacts slots before d
 
-module _ (nand : List ℕ) (slots live : ℕ) (q : Query) (c : Cursor) (size : length nand ≡ slots * 16384) (sound : Sound slots c) where
+module _ (nand : List ℕ) (slots live : ℕ) (q : Query) (c : Cursor) (size : length nand ≡ slots * 16384)
+    (sound : Sound slots c) where
   abbrev header : Header
   header = headerAt nand slots (c .next) (c .before)
 
@@ -120,11 +123,13 @@ module _ (nand : List ℕ) (slots live : ℕ) (q : Query) (c : Cursor) (size : l
     where
       go : (e : Bool) → (c .last || not (isLive (c .next) live)) ≡ e → (b : Bool) → header .good ≡ b → (p : Bool)
           → StepFacts nand slots (c .before) (cond e End
-          (cond (not (header .good)) Damage (cond p (Pass (cursorAfter header q)) (Visit (closedOf (c .next .slot) header) (cursorAfter header q)))))
+          (cond (not (header .good)) Damage (cond p (Pass (cursorAfter header q))
+          (Visit (closedOf (c .next .slot) header) (cursorAfter header q)))))
       go true e b h p = tt
       go false e false h p = rw h tt
       go false e true h true = rw h (after-facts h)
       go false e true h false =
           let f = header-good nand slots (c .before) (c .next) header refl h .counts in
-          let i = live-inside (length nand) slots live (c .next) size (sound (or-first (c .last) _ e)) (not-false _ (or-second (c .last) _ e)) in
+          let i = live-inside (length nand) slots live (c .next) size (sound (or-first (c .last) _ e))
+          (not-false _ (or-second (c .last) _ e)) in
           rw h (record { inside = i; most = f .most; buckets-most = f .buckets-most }, after-facts h)

@@ -1,6 +1,7 @@
--- Where a search's closed segments begin (document 01, "Search", first paragraph): the skip walk, from the heads, level 4 down to 1.
+-- Where a search's closed segments begin (document 01, "Search", first paragraph): the skip walk, from the heads, level 4 down
+-- to 1.
 -- Assumes nothing.
-use mathlib.Core.Bool.{Bool, true, false, cond, not, _&&_}
+use mathlib.Core.Bool.{true, cond, not, _&&_}
 use mathlib.Core.List.{List}
 use Prim.Native.Nat.{ℕ, zero, suc, _+_}
 use lib.Dec.{eqb, leb, ltb}
@@ -19,7 +20,8 @@ use Rattle.walk.specs.declared.SkipWalk.{SkipWalk}
 abbrev pub headerAt : List ℕ → ℕ → Pointer → ℕ → Header
 headerAt nand slots p before = headerIn (pageOf nand (p .slot) 31) slots before
 
--- the walk is at level k + 1: "while that level's pointer is live and its time is above t2, load its header and go on from its pointers",
+-- the walk is at level k + 1: "while that level's pointer is live and its time is above t2, load its header and go on from its
+-- pointers",
 -- else one level down; damage ends the walk
 unfoldable pub hopAt : List ℕ → ℕ → ℕ → ℕ → SkipWalk → ℕ → SkipWalk
 hopAt nand slots live t2 w k =

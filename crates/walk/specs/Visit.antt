@@ -1,8 +1,8 @@
 -- What a search takes from each segment (document 01, "Search"). Assumes nothing.
-use mathlib.Core.Bool.{Bool, true, false, cond, not, _&&_, _||_}
+use mathlib.Core.Bool.{Bool, true, cond, not, _&&_, _||_}
 use mathlib.Core.Option.{Option, none, some}
-use mathlib.Core.List.{List, [], _∷_, map}
-use Prim.Native.Nat.{ℕ, zero, suc, _+_, _-_, _*_, _/_}
+use mathlib.Core.List.{List, [], map}
+use Prim.Native.Nat.{ℕ, _*_, _/_}
 use lib.Dec.{eqb, leb, ltb}
 use lib.ListN.{getD}
 use Rattle.flash.specs.Chip.{slotOf, pagesOf, norTree}
@@ -10,7 +10,6 @@ use Rattle.lift.specs.Rows.{timeIn, codeIn, recordIn}
 use Rattle.bloom.specs.Bloom.{mayHold}
 use Rattle.bloom.specs.Pages.{sectionCount, sectionsIn}
 use Rattle.bitset.specs.Set.{picked, elem}
-use Rattle.skiplist.specs.declared.Pointer.{Pointer}
 use Rattle.skiplist.specs.Skip as Skip
 use Rattle.segment.specs.declared.Header.{Header}
 use Rattle.tree.specs.Sweep.{sweepOn}
@@ -24,7 +23,8 @@ use Rattle.walk.specs.Seek.{headerAt}
 
 -- ---- from segment to segment
 
--- "A closed segment is passed over if its load span misses the range or, for equal loads, if some hash bit is clear in all sections."
+-- "A closed segment is passed over if its load span misses the range or, for equal loads, if some hash bit is clear in all
+-- sections."
 unfoldable pub isPassed : List ℕ → ℕ → Header → Query → Bool
 isPassed nand slot h q =
     (ltb (h .high) (q .k1) || ltb (q .k2) (h .low))

@@ -8,7 +8,7 @@ use sweep::Records;
 use sweep::Sweep;
 ghost use mathlib.Core.Path.{_≡_};
 ghost use mathlib.Core.Bool.{_&&_};
-ghost use Prim.Native.Nat.{ℕ, _+_, _-_, _*_, _<_, _≤_};
+ghost use Prim.Native.Nat.{_+_, _-_, _*_, _<_, _≤_};
 ghost use lib.ListN.{length, getD};
 ghost use Rattle.bitset.specs.Set.{emptyWords, insertAll, members, picked, has};
 ghost use Rattle.bitset.proofs.Set.{Below};
@@ -17,7 +17,7 @@ ghost use Rattle.skiplist.specs.Skip.{none};
 ghost use Rattle.sweep.specs.Swept.{sweptFrom, Recorded, Held};
 ghost use Rattle.walk.specs.Seek.{hopAt, skipWalk, startOf};
 ghost use Rattle.walk.specs.Visit.{isPassed, advanceOf, timely, matchesOf, closedMatches, openMatches};
-ghost use Rattle.walk.specs.Visit.{closedLifts, openLifts, firstBuffered};
+ghost use Rattle.walk.specs.Visit.{closedLifts, openLifts};
 ghost use Rattle.walk.specs.Sound.{InSlots, Sound, ClosedSound, LogSound, closedRecords, openRecords};
 
 // Times from t1 to t2, stored loads from k1 to k2.

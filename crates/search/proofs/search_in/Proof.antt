@@ -25,7 +25,8 @@ count-all-requires c κs =
 
 returns : tie.Need-returns
 returns c =
-    answer-damage _ _ _ (c .before .count-all .ensures) (not-true _ (c .if1 .taken)) ∙ ap (searchAnswer _) (found-is _ _ _ _ _ _ (c .before .before .before .start-of .ensures))
+    answer-damage _ _ _ (c .before .count-all .ensures) (not-true _ (c .if1 .taken)) ∙ ap (searchAnswer _)
+    (found-is _ _ _ _ _ _ (c .before .before .before .start-of .ensures))
 
 returns-2 : tie.Need-returns-2
 returns-2 c =
@@ -40,13 +41,16 @@ write-all-requires c κs =
     let a = c .before .before .before .before .before .before .before .before .before .before .args in
     let p = c .before .before .before .before .before .before .before .before .before .before .pre in
     let l : length (a .t3) ≡ 512 = search needs in
-    let o = allRows (a .nand .now) (a .nor .now) (a .t3) (a .g) (a .q) (c .before .before .before .before .before .before .start-of .result) in (
+    let o = allRows (a .nand .now) (a .nor .now) (a .t3) (a .g) (a .q)
+    (c .before .before .before .before .before .before .start-of .result) in (
       p .0,
       (
         (l, p .1, omega (arith, c .before .before .if2 .left)),
         (
-          begun-at (a .nand .now) (a .g) (a .q) _ (p .0 .heads-in) (c .before .before .before .before .before .before .start-of .ensures),
-          counted-is (a .area .now) o _ (c .before .before .before .before .count-all .ensures) (not-false _ (c .before .before .before .if1 .left)),
+          begun-at (a .nand .now) (a .g) (a .q) _ (p .0 .heads-in)
+              (c .before .before .before .before .before .before .start-of .ensures),
+          counted-is (a .area .now) o _ (c .before .before .before .before .count-all .ensures)
+              (not-false _ (c .before .before .before .if1 .left)),
         ),
       ),
     )
@@ -56,8 +60,11 @@ same-length c = search needs
 
 returns-3 : tie.Need-returns-3
 returns-3 c =
-    answer-found _ _ _ (c .before .before .before .before .before .before .before .count-all .ensures) (not-false _ (c .before .before .before .before .before .before .if1 .left)) _ refl (c .before .before .before .before .before .if2 .left) _ (c .before .before .write-all .ensures)
-    ∙ ap (searchAnswer _) (found-is _ _ _ _ _ _ (c .before .before .before .before .before .before .before .before .before .start-of .ensures))
+    answer-found _ _ _ (c .before .before .before .before .before .before .before .count-all .ensures)
+    (not-false _ (c .before .before .before .before .before .before .if1 .left)) _ refl
+    (c .before .before .before .before .before .if2 .left) _ (c .before .before .write-all .ensures)
+    ∙ ap (searchAnswer _) (found-is _ _ _ _ _ _
+    (c .before .before .before .before .before .before .before .before .before .start-of .ensures))
 
 pub search-in-spec : {M : Type 1} → statement M
 search-in-spec =

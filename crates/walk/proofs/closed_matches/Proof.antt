@@ -15,11 +15,13 @@ closed-records-requires c κs = search needs
 
 matches-requires : tie.Need-matches-requires
 matches-requires c κs =
-    closed-held _ _ (c .before .before .before .before .pre) _ _ (c .before .pages-of .ensures) (c .before .before .closed-lifts .ensures) _ (c .closed-records .ensures)
+    closed-held _ _ (c .before .before .before .before .pre) _ _ (c .before .pages-of .ensures)
+    (c .before .before .closed-lifts .ensures) _ (c .closed-records .ensures)
 
 returns : tie.Need-returns
 returns c =
-    closed-are _ _ (c .before .before .before .before .before .pre) _ _ (c .before .before .pages-of .ensures) (c .before .before .before .closed-lifts .ensures) _ (c .before .closed-records .ensures) _ _ (c .matches .ensures)
+    closed-are _ _ (c .before .before .before .before .before .pre) _ _ (c .before .before .pages-of .ensures)
+    (c .before .before .before .closed-lifts .ensures) _ (c .before .closed-records .ensures) _ _ (c .matches .ensures)
 
 pub closed-matches-spec : {M : Type 1} → statement M
 closed-matches-spec =

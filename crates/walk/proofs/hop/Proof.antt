@@ -1,5 +1,5 @@
 -- `walk::hop` meets its contract: a level down, a header on, damage.
-use mathlib.Core.Path.{_≡_, ap, _∙_}
+use mathlib.Core.Path.{ap, _∙_}
 use Prim.Native.Nat.{_-_}
 use lib.ListN.{length}
 use Rattle.codec.proofs.Areas.{length-part}
@@ -20,7 +20,8 @@ is-live-requires c κs = search needs
 
 returns : tie.Need-returns
 returns c =
-    hop-down _ _ _ _ _ _ _ (c .before .before .before .pointer-of .ensures) _ (c .before .before .is-live .ensures) (c .if1 .taken)
+    hop-down _ _ _ _ _ _ _ (c .before .before .before .pointer-of .ensures) _ (c .before .before .is-live .ensures)
+    (c .if1 .taken)
 
 cast-slot : tie.Need-cast-slot
 cast-slot c = search needs
@@ -28,8 +29,11 @@ cast-slot c = search needs
 pages-of-requires : tie.Need-pages-of-requires
 pages-of-requires c κs =
     let a = c .before .before .before .before .before .before .before .before .args in (
-      hop-inside (a .nand .now) (a .slots) (a .live) (a .t2) (a .w) (a .w .level - 1) _ (c .before .before .before .before .pointer-of .ensures) _ (c .before .before .before .is-live .ensures) (c .before .if1 .left)
-          (c .before .before .before .before .before .before .before .before .pre .0 .0) (c .before .before .before .before .before .before .before .before .pre .1),
+      hop-inside (a .nand .now) (a .slots) (a .live) (a .t2) (a .w) (a .w .level - 1) _
+          (c .before .before .before .before .pointer-of .ensures) _ (c .before .before .before .is-live .ensures)
+          (c .before .if1 .left)
+          (c .before .before .before .before .before .before .before .before .pre .0 .0)
+          (c .before .before .before .before .before .before .before .before .pre .1),
       omega arith,
       omega arith,
     )
@@ -40,12 +44,16 @@ header-in-requires c κs =
 
 returns-2 : tie.Need-returns-2
 returns-2 c =
-    hop-on _ _ _ _ _ _ _ (c .before .before .before .before .before .before .before .before .pointer-of .ensures) _ (c .before .before .before .before .before .before .before .is-live .ensures) (c .before .before .before .before .before .if1 .left)
+    hop-on _ _ _ _ _ _ _ (c .before .before .before .before .before .before .before .before .pointer-of .ensures) _
+    (c .before .before .before .before .before .before .before .is-live .ensures)
+    (c .before .before .before .before .before .if1 .left)
     _ (c .before .before .before .pages-of .ensures) _ (c .before .before .header-in .ensures) _ (omega arith) (c .if2 .taken)
 
 returns-3 : tie.Need-returns-3
 returns-3 c =
-    hop-spoilt _ _ _ _ _ _ _ (c .before .before .before .before .before .before .before .before .pointer-of .ensures) _ (c .before .before .before .before .before .before .before .is-live .ensures) (c .before .before .before .before .before .if1 .left)
+    hop-spoilt _ _ _ _ _ _ _ (c .before .before .before .before .before .before .before .before .pointer-of .ensures) _
+    (c .before .before .before .before .before .before .before .is-live .ensures)
+    (c .before .before .before .before .before .if1 .left)
     _ (c .before .before .before .pages-of .ensures) _ (c .before .before .header-in .ensures) (c .if2 .left)
 
 pub hop-spec : {M : Type 1} → statement M

@@ -24,7 +24,8 @@ may-hold-requires c κs =
 
 returns-3 : tie.Need-returns-3
 returns-3 c =
-    passed-bloom _ _ _ _ (c .before .before .before .before .if1 .left) (c .before .before .if2 .left) _ (c .before .pages-of .ensures) _ (c .may-hold .ensures)
+    passed-bloom _ _ _ _ (c .before .before .before .before .if1 .left) (c .before .before .if2 .left) _
+    (c .before .pages-of .ensures) _ (c .may-hold .ensures)
 
 pub is-passed-spec : {M : Type 1} → statement M
 is-passed-spec =

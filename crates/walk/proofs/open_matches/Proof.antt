@@ -15,11 +15,15 @@ open-records-requires c κs = search needs
 
 matches-requires : tie.Need-matches-requires
 matches-requires c κs =
-    open-held _ _ _ (c .before .before .before .before .before .before .pre .0) _ (c .before .before .before .before .before .before .pre .1) _ _ (c .before .nor-tree .ensures) (c .before .before .open-lifts .ensures) _ (c .open-records .ensures)
+    open-held _ _ _ (c .before .before .before .before .before .before .pre .0) _
+    (c .before .before .before .before .before .before .pre .1) _ _ (c .before .nor-tree .ensures)
+    (c .before .before .open-lifts .ensures) _ (c .open-records .ensures)
 
 returns : tie.Need-returns
 returns c =
-    open-are _ _ _ (c .before .before .before .before .before .before .before .pre .0) _ (c .before .before .before .before .before .before .before .pre .1) _ _ (c .before .before .nor-tree .ensures) (c .before .before .before .open-lifts .ensures) _ (c .before .open-records .ensures) _ _ (c .matches .ensures)
+    open-are _ _ _ (c .before .before .before .before .before .before .before .pre .0) _
+    (c .before .before .before .before .before .before .before .pre .1) _ _ (c .before .before .nor-tree .ensures)
+    (c .before .before .before .open-lifts .ensures) _ (c .before .open-records .ensures) _ _ (c .matches .ensures)
 
 pub open-matches-spec : {M : Type 1} → statement M
 open-matches-spec =

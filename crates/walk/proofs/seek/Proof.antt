@@ -1,6 +1,6 @@
 -- `walk::seek` meets its contract: the hops that are left lead from here to where they lead from the heads.
-use mathlib.Core.Path.{_≡_, refl, sym, ap, _∙_}
-use Prim.Native.Nat.{ℕ, suc, _+_, _-_, _<_}
+use mathlib.Core.Path.{_≡_, refl, sym, _∙_}
+use Prim.Native.Nat.{suc, _-_}
 use Rattle.walk.specs.Seek.{hops, skipWalk}
 use Rattle.walk.proofs.Hops.{hopsLeft, Walked, hop-walked, left-level, hop-falls, walk-step, walk-end, walk-starts}
 use native.Mathlib.Omega.{arith}
@@ -8,7 +8,8 @@ use Rattle.walk.proofs.seek.Statement.{statement}
 use Rattle.walk.proofs.seek.Tie as tie
 
 abbrev Inv-loop : tie.InvT-loop
-Inv-loop nand g t2 w₀ w = Walked (g .slots) (g .current) w × (hops (hopsLeft w) nand (g .slots) (g .live) t2 w ≡ skipWalk nand g t2)
+Inv-loop nand g t2 w₀ w =
+    Walked (g .slots) (g .current) w × (hops (hopsLeft w) nand (g .slots) (g .live) t2 w ≡ skipWalk nand g t2)
 
 abbrev μ-loop : tie.MeasureT-loop
 μ-loop nand g t2 w₀ w = hopsLeft w
@@ -32,7 +33,11 @@ loop-again : tie.Need-loop-again Inv-loop μ-loop
 loop-again c =
     let w = c .before .before .before .loop .w in
     let e : w .level ≡ suc (w .level - 1) = omega (arith, c .before .if1 .taken) in
-    rw (c .hop .ensures) (hop-walked _ _ _ _ _ w (w .level - 1) e (c .before .before .before .loop .inv .0), walk-step _ _ _ _ w (w .level - 1) e ∙ c .before .before .before .loop .inv .1)
+    rw (c .hop .ensures) (
+      hop-walked _ _ _ _ _ w (w .level - 1) e (c .before .before .before .loop .inv .0),
+      walk-step _ _ _ _ w
+          (w .level - 1) e ∙ c .before .before .before .loop .inv .1,
+    )
 
 returns : tie.Need-returns Inv-loop μ-loop
 returns c = sym (walk-end _ _ _ _ _ (omega (arith, c .if1 .left))) ∙ c .before .before .loop .inv .1

@@ -1,5 +1,4 @@
 -- `walk::start_of` meets its contract: nothing to do in the closed segments, or where the walk leads.
-use mathlib.Core.Path.{_≡_}
 use Rattle.walk.proofs.Hops.{start-none, start-reached}
 use borrow.Author.Needs.{needs}
 use Rattle.walk.proofs.start_of.Statement.{statement}

@@ -1,7 +1,6 @@
 -- `walk::timed` meets its contract: the places kept, and those of the rest that are in the window, are all.
-use mathlib.Core.Path.{_≡_, sym, ap, _∙_}
+use mathlib.Core.Path.{sym, ap, _∙_}
 use mathlib.Core.Bool.{Bool, _&&_}
-use mathlib.Core.List.{List}
 use mathlib.Core.Logic.{⊎-elim}
 use Prim.Native.Nat.{ℕ}
 use lib.ListN.{length}
@@ -39,7 +38,8 @@ returns c = kept-all _ _ _ _ (c .before .before .loop .inv .1) _ (c .before .nex
 
 time-in-requires : tie.Need-time-in-requires Inv-loop μ-loop
 time-in-requires c κs =
-    recorded-at _ _ (c .before .before .before .before .before .before .args .g) _ (c .before .before .before .before .before .before .pre .0)
+    recorded-at _ _ (c .before .before .before .before .before .before .args .g) _
+    (c .before .before .before .before .before .before .pre .0)
     (emptied-below _ _ (c .before .next .ensures .0) _ (not-false _ (c .if1 .left)) (c .before .before .loop .inv .0) .0)
 
 insert-requires : tie.Need-insert-requires Inv-loop μ-loop
@@ -47,18 +47,24 @@ insert-requires c κs = search needs
 
 loop-less : tie.Need-loop-less Inv-loop μ-loop
 loop-less c =
-    emptied-less _ _ (c .before .before .before .before .before .before .next .ensures .0) (not-false _ (c .before .before .before .before .before .if1 .left))
+    emptied-less _ _ (c .before .before .before .before .before .before .next .ensures .0)
+    (not-false _ (c .before .before .before .before .before .if1 .left))
 
 loop-again : tie.Need-loop-again Inv-loop μ-loop
 loop-again c =
     let a = c .before .before .before .before .before .before .before .before .before .before .before .args in
     let f : ℕ → Bool = λ p. timely (a .q) (timeIn (a .lifts .now) (a .tail .now) (a .g .first) p) in
     let found = not-false _ (c .before .before .before .before .before .if1 .left) in (
-      emptied-below _ _ (c .before .before .before .before .before .before .next .ensures .0) _ found (c .before .before .before .before .before .before .before .loop .inv .0) .1,
+      emptied-below _ _ (c .before .before .before .before .before .before .next .ensures .0) _ found
+          (c .before .before .before .before .before .before .before .loop .inv .0) .1,
       ⊎-elim
-          (λ w. kept-in f _ _ _ (c .before .before .before .before .before .before .before .loop .inv .1) _ (c .before .before .before .before .before .before .next .ensures .0) found (ap (timely (a .q)) (sym (c .before .before .before .before .time-in .ensures)) ∙ w .0 .taken)
+          (λ w. kept-in f _ _ _ (c .before .before .before .before .before .before .before .loop .inv .1) _
+          (c .before .before .before .before .before .before .next .ensures .0) found
+          (ap (timely (a .q)) (sym (c .before .before .before .before .time-in .ensures)) ∙ w .0 .taken)
           _ (ap (λ (b : Bits). b .words) (w .2) ∙ w .1 .ensures))
-          (λ w. rw (w .1) (kept-out f _ _ _ (c .before .before .before .before .before .before .before .loop .inv .1) _ (c .before .before .before .before .before .before .next .ensures .0) found (ap (timely (a .q)) (sym (c .before .before .before .before .time-in .ensures)) ∙ w .0 .left)))
+          (λ w. rw (w .1) (kept-out f _ _ _ (c .before .before .before .before .before .before .before .loop .inv .1) _
+          (c .before .before .before .before .before .before .next .ensures .0) found
+          (ap (timely (a .q)) (sym (c .before .before .before .before .time-in .ensures)) ∙ w .0 .left)))
           (c .before .if2 .came),
     )
 

@@ -1,0 +1,142 @@
+// How many lifts a search finds (document 01, "Search"): segment by segment, the open one first.
+use crate::Counted;
+use crate::Counting;
+use sweep::Sweep;
+use walk::Closed;
+use walk::Cursor;
+use walk::Log;
+use walk::Query;
+use walk::Step;
+ghost use mathlib.Core.Path.{_≡_};
+ghost use mathlib.Core.Bool.{true, false};
+ghost use Prim.Native.Nat.{_+_, _*_, _^_, _<_, _≤_};
+ghost use lib.ListN.{length};
+ghost use Rattle.walk.specs.Visit.{closedRows, openRows};
+ghost use Rattle.walk.specs.Sound.{Sound, Begun, ClosedSound, LogSound};
+ghost use Rattle.search.specs.Turns.{allRows, rowsAfter, countOf, countedWith, CountsOn};
+
+// A count with the matches of one more segment.
+fn counted_with(total: u64, m: Sweep) -> Counted
+    requires { ⌜ total + 320 < 2 ^ 64 ⌝ }
+    ensures { λ r. ⌜ r ≡ countedWith total m ⌝ }
+{
+    let good = m.good;
+    if good {
+        let set = m.set;
+        let n = set.count() as u64;
+        let more = total + n;
+        return Counted {
+            good: true,
+            total: more,
+        };
+    }
+    Counted {
+        good: false,
+        total: 0,
+    }
+}
+
+// How many the open segment has.
+fn count_open(nand: &[u8], nor: &[u8], page: &[u8], g: Log, q: Query) -> Counted
+    requires { ⌜ LogSound (now nand) (now nor) g ⌝ }
+    requires { ⌜ length (now page) ≡ 512 ⌝ }
+    ensures { λ r. ⌜ r ≡ countOf 0 (openRows (now (nand .entry)) (now (nor .entry)) (now (page .entry)) g q) ⌝ }
+{
+    if g.count == 0 {
+        return Counted {
+            good: true,
+            total: 0,
+        };
+    }
+    let m = walk::open_matches(nand, nor, page, g, q);
+    counted_with(0, m)
+}
+
+// One closed segment more.
+fn count_one(nand: &[u8], s: Closed, q: Query, total: u64) -> Counted
+    requires { ⌜ ClosedSound (now nand) s ⌝ }
+    requires { ⌜ total + 320 < 2 ^ 64 ⌝ }
+    ensures { λ r. ⌜ r ≡ countOf total (closedRows (now (nand .entry)) s q) ⌝ }
+{
+    let m = walk::closed_matches(nand, s, q);
+    counted_with(total, m)
+}
+
+// One segment on.
+fn count_on(nand: &[u8], slots: u64, live: u64, q: Query, r: Counting) -> Counting
+    requires { ⌜ (length (now nand) ≡ slots * 16384) × (1 ≤ q .k1) × (r .n .total + 320 < 2 ^ 64) ⌝ }
+    requires { ⌜ Sound slots (r .c) ⌝ }
+    requires { ⌜ (r .done ≡ false) × (r .n .good ≡ true) ⌝ }
+    ensures { λ next. ⌜ CountsOn (now (nand .entry)) slots live q r next ⌝ }
+{
+    let c = r.c;
+    let n = r.n;
+    let step = walk::advance(nand, slots, live, q, c);
+    match step {
+        Step::End => Counting { done: true, c, n },
+        Step::Damage => {
+            let none = Counted {
+                good: false,
+                total: 0,
+            };
+            Counting {
+                done: true,
+                c,
+                n: none,
+            }
+        }
+        Step::Pass(d) => Counting {
+            done: false,
+            c: d,
+            n,
+        },
+        Step::Visit(s, d) => {
+            let more = count_one(nand, s, q, n.total);
+            let good = more.good;
+            Counting {
+                done: !good,
+                c: d,
+                n: more,
+            }
+        }
+    }
+}
+
+// How many the closed segments from a cursor on have, with those of the open one.
+fn count_closed(nand: &[u8], slots: u64, live: u64, q: Query, c: Cursor, total: u64) -> Counted
+    requires { ⌜ (length (now nand) ≡ slots * 16384) × (1 ≤ q .k1) × (total ≤ 320) ⌝ }
+    requires { ⌜ Sound slots c ⌝ }
+    ensures { λ r. ⌜ r ≡ countOf total (rowsAfter (now (nand .entry)) slots live q c) ⌝ }
+{
+    let mut r = Counting {
+        done: false,
+        c,
+        n: Counted { good: true, total },
+    };
+    loop {
+        r = count_on(nand, slots, live, q, r);
+        let done = r.done;
+        if done {
+            let n = r.n;
+            return n;
+        }
+    }
+}
+
+// How many all segments have, the closed ones from a cursor on.
+pub fn count_all(nand: &[u8], nor: &[u8], page: &[u8], g: Log, q: Query, c: Cursor) -> Counted
+    requires { ⌜ LogSound (now nand) (now nor) g ⌝ }
+    requires { ⌜ (length (now page) ≡ 512) × (1 ≤ q .k1) ⌝ }
+    requires { ⌜ Begun g c ⌝ }
+    ensures { λ r. ⌜ r ≡ countOf 0 (allRows (now (nand .entry)) (now (nor .entry)) (now (page .entry)) g q c) ⌝ }
+{
+    let n = count_open(nand, nor, page, g, q);
+    let good = c.good & n.good;
+    if !good {
+        return Counted {
+            good: false,
+            total: 0,
+        };
+    }
+    count_closed(nand, g.slots, g.live, q, c, n.total)
+}

@@ -1,0 +1,161 @@
+// The rows of a search (document 01, "Search"), written from the end of the count backwards: the open segment's first.
+use crate::Writing;
+use bitset::Bits;
+use sweep::Records;
+use walk::Closed;
+use walk::Cursor;
+use walk::Log;
+use walk::Query;
+use walk::Step;
+ghost use mathlib.Core.Path.{_≡_};
+ghost use mathlib.Core.Bool.{false};
+ghost use mathlib.Core.List.{map};
+ghost use Prim.Native.Nat.{_+_, _*_, _≤_};
+ghost use lib.ListN.{length};
+ghost use Rattle.codec.specs.Area.{splice};
+ghost use Rattle.bitset.specs.Set.{members};
+ghost use Rattle.bitset.proofs.Set.{Below};
+ghost use Rattle.lift.specs.Rows.{recordIn};
+ghost use Rattle.sweep.specs.Swept.{Recorded};
+ghost use Rattle.walk.specs.Visit.{closedRows, openRows};
+ghost use Rattle.walk.specs.Sound.{Sound, Begun, ClosedSound, LogSound};
+ghost use Rattle.search.specs.Answers.{rowBytes};
+ghost use Rattle.search.specs.Turns.{allRows, rowsAfter, rowsIn, writtenIn, WrittenUpTo, CountIs, WritesOn};
+
+// The records of a set's places go to rows from `row` on, the lowest place first.
+fn put_rows(area: &mut [u8], row: usize, lifts: &[u8], tail: &[u8], g: Records, set: Bits)
+    requires { ⌜ Recorded (now lifts) (now tail) g ⌝ }
+    requires { ⌜ Below (g .count) (members (set .words)) ⌝ }
+    requires { ⌜ (row + length (members (set .words))) * 32 ≤ length (now area) ⌝ }
+    ensures { λ _. ⌜ now (area .exit) ≡ splice (now (area .entry)) (row * 32)
+        (rowBytes (map (recordIn (now (lifts .entry)) (now (tail .entry)) (g .first)) (members (set .words)))) ⌝ }
+{
+    let mut rest = set;
+    let mut to = row;
+    loop {
+        let n = rest.next();
+        let found = n.found;
+        if !found {
+            return;
+        }
+        lift::put_row(area, to, lifts, tail, g.first, n.at);
+        to += 1;
+        rest = n.rest;
+    }
+}
+
+// The rows of a closed segment end at row `end`; where they begin.
+fn write_one(area: &mut [u8], nand: &[u8], s: Closed, q: Query, end: u64) -> u64
+    requires { ⌜ ClosedSound (now nand) s ⌝ }
+    requires { ⌜ (length (rowsIn (closedRows (now nand) s q)) ≤ end) × (end * 32 ≤ length (now area)) ⌝ }
+    ensures { λ r. ⌜ WrittenUpTo (now (area .entry)) (now (area .exit)) (rowsIn (closedRows (now (nand .entry)) s q)) end r ⌝ }
+{
+    let m = walk::closed_matches(nand, s, q);
+    let set = m.set;
+    let row = end - set.count() as u64;
+    let lifts = walk::closed_lifts(nand, s);
+    let g = walk::closed_records(s);
+    put_rows(area, row as usize, lifts, lifts, g, set);
+    row
+}
+
+// Those of the open segment.
+fn write_open(
+    area: &mut [u8],
+    nand: &[u8],
+    nor: &[u8],
+    page: &[u8],
+    g: Log,
+    q: Query,
+    end: u64,
+) -> u64
+    requires { ⌜ LogSound (now nand) (now nor) g ⌝ }
+    requires { ⌜ length (now page) ≡ 512 ⌝ }
+    requires { ⌜ (length (rowsIn (openRows (now nand) (now nor) (now page) g q)) ≤ end) × (end * 32 ≤ length (now area)) ⌝ }
+    ensures { λ r. ⌜ WrittenUpTo (now (area .entry)) (now (area .exit))
+        (rowsIn (openRows (now (nand .entry)) (now (nor .entry)) (now (page .entry)) g q)) end r ⌝ }
+{
+    if g.count == 0 {
+        return end;
+    }
+    let m = walk::open_matches(nand, nor, page, g, q);
+    let set = m.set;
+    let row = end - set.count() as u64;
+    let lifts = walk::open_lifts(nand, g);
+    let r = walk::open_records(g);
+    put_rows(area, row as usize, lifts, page, r, set);
+    row
+}
+
+// One segment on.
+fn write_on(area: &mut [u8], nand: &[u8], slots: u64, live: u64, q: Query, w: Writing) -> Writing
+    requires { ⌜ (length (now nand) ≡ slots * 16384) × (1 ≤ q .k1) × (w .row * 32 ≤ length (now area)) ⌝ }
+    requires { ⌜ Sound slots (w .c) ⌝ }
+    requires { ⌜ w .done ≡ false ⌝ }
+    requires { ⌜ CountIs (w .row) (rowsAfter (now nand) slots live q (w .c)) ⌝ }
+    ensures { λ next. ⌜ WritesOn (now (nand .entry)) slots live q (now (area .entry)) (now (area .exit)) w next ⌝ }
+{
+    let c = w.c;
+    let row = w.row;
+    let step = walk::advance(nand, slots, live, q, c);
+    match step {
+        Step::End => Writing { done: true, c, row },
+        Step::Damage => Writing { done: true, c, row },
+        Step::Pass(d) => Writing {
+            done: false,
+            c: d,
+            row,
+        },
+        Step::Visit(s, d) => {
+            let before = write_one(area, nand, s, q, row);
+            Writing {
+                done: false,
+                c: d,
+                row: before,
+            }
+        }
+    }
+}
+
+// The rows of the closed segments from a cursor on, `row` of them, from the area's start on.
+fn write_closed(area: &mut [u8], nand: &[u8], slots: u64, live: u64, q: Query, c: Cursor, row: u64)
+    requires { ⌜ (length (now nand) ≡ slots * 16384) × (1 ≤ q .k1) × (row * 32 ≤ length (now area)) ⌝ }
+    requires { ⌜ Sound slots c ⌝ }
+    requires { ⌜ CountIs row (rowsAfter (now nand) slots live q c) ⌝ }
+    ensures { λ _. ⌜ now (area .exit) ≡ writtenIn (now (area .entry)) (rowsAfter (now (nand .entry)) slots live q c) ⌝ }
+{
+    let mut w = Writing {
+        done: false,
+        c,
+        row,
+    };
+    loop {
+        w = write_on(area, nand, slots, live, q, w);
+        let done = w.done;
+        if done {
+            return;
+        }
+    }
+}
+
+// The rows of all segments, `total` of them, the oldest first.
+pub fn write_all(
+    area: &mut [u8],
+    nand: &[u8],
+    nor: &[u8],
+    page: &[u8],
+    g: Log,
+    q: Query,
+    c: Cursor,
+    total: u64,
+)
+    requires { ⌜ LogSound (now nand) (now nor) g ⌝ }
+    requires { ⌜ (length (now page) ≡ 512) × (1 ≤ q .k1) × (total * 32 ≤ length (now area)) ⌝ }
+    requires { ⌜ Begun g c ⌝ }
+    requires { ⌜ CountIs total (allRows (now nand) (now nor) (now page) g q c) ⌝ }
+    ensures { λ _. ⌜ now (area .exit)
+        ≡ writtenIn (now (area .entry)) (allRows (now (nand .entry)) (now (nor .entry)) (now (page .entry)) g q c) ⌝ }
+{
+    let row = write_open(area, nand, nor, page, g, q, total);
+    write_closed(area, nand, g.slots, g.live, q, c, row);
+}
