@@ -9,7 +9,7 @@ use lib.ListN.{length, take, drop, getD, set}
 use lib.Seq.{length-take-le, take-suc-set, drop-cons, drop-length}
 use Rattle.lines.specs.Forms.{lineOf}
 use Rattle.store.specs.World.{World, world}
-use Rattle.slotlist.specs.declared.Session.{Session}
+use Rattle.slotlist.specs.declared.Reader.{Reader}
 use Rattle.slotlist.specs.Obeyed.{Desk, desk, obeyed, kept, typed, typedAll}
 
 module _ (line : List ℕ) (n b : ℕ) (h : length line ≡ 48) where
@@ -26,12 +26,12 @@ module _ (line : List ℕ) (n b : ℕ) (h : length line ≡ 48) where
       let e : length (take n line) ≡ n = length-take-le n line (omega arith) in
       rw (e, le-ltb n 48 l)
 
-pub line-ended : (d : Desk) (b : ℕ) (nand nor : List ℕ) (r : Session) → b ≡ 10 → r .len ≡ 0
+pub line-ended : (d : Desk) (b : ℕ) (nand nor : List ℕ) (r : Reader) → b ≡ 10 → r .len ≡ 0
     → world nand nor (r .state) ≡ obeyed (d .world) (lineOf (d .line)) → desk nand nor r ≡ typed d b
 unfolding typed
 line-ended d b nand nor r h e w = rw (eq-eqb b 10 h, e, w)
 
-pub line-longer : (d : Desk) (b : ℕ) (nand nor : List ℕ) (r : Session) → (b ≡ 10 → ⊥)
+pub line-longer : (d : Desk) (b : ℕ) (nand nor : List ℕ) (r : Reader) → (b ≡ 10 → ⊥)
     → world nand nor (r .state) ≡ d .world → take (r .len) (r .line) ≡ kept (d .line) b → desk nand nor r ≡ typed d b
 unfolding typed
 line-longer d b nand nor r h w e = rw (ne-eqb b 10 h, e, w)

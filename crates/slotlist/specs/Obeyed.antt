@@ -10,7 +10,7 @@ use Rattle.lines.specs.declared.Line.the-variants.{Append, Close, Drop, Search,
 use Rattle.lines.specs.Forms.{lineOf}
 use Rattle.store.specs.World.{World, world}
 use Rattle.store.specs.Calls.{appendOutcome, closeOutcome, dropOutcome}
-use Rattle.slotlist.specs.declared.Session.{Session}
+use Rattle.slotlist.specs.declared.Reader.{Reader}
 
 unfoldable pub obeyed : World → Line → World
 obeyed w (Append t k) = appendOutcome w 2 t k (replicate 20 0) .world
@@ -25,7 +25,7 @@ pub record Desk : Type 0 where
   pub world : World
   pub line : List ℕ
 
-abbrev pub desk : List ℕ → List ℕ → Session → Desk
+abbrev pub desk : List ℕ → List ℕ → Reader → Desk
 desk nand nor s = record { world = world nand nor (s .state); line = take (s .len) (s .line) }
 
 -- a byte more of a line: 48 are kept, which no form has

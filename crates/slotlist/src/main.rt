@@ -38,7 +38,7 @@ const LINE_FEED: u8 = 10;
 const LINE_BYTES: usize = 48;
 
 // The state, and the line so far.
-struct Session {
+struct Reader {
     state: State,
     line: [u8; LINE_BYTES],
     len: usize,
@@ -160,7 +160,7 @@ fn obey(nand: &mut [u8], nor: &mut [u8], area: &mut [u8], s: State, line: &[u8])
 }
 
 // Obeys the line so far, and starts the next.
-fn obey_line(nand: &mut [u8], nor: &mut [u8], area: &mut [u8], s: Session) -> Session
+fn obey_line(nand: &mut [u8], nor: &mut [u8], area: &mut [u8], s: Reader) -> Reader
     requires { ⌜ s .len ≤ 48 ⌝ }
     ensures { λ r. ⌜ (r .len ≡ 0) × (world (now (nand .exit)) (now (nor .exit)) (r .state)
         ≡ obeyed (world (now (nand .entry)) (now (nor .entry)) (s .state)) (lineOf (take (s .len) (s .line)))) ⌝ }
@@ -169,7 +169,7 @@ fn obey_line(nand: &mut [u8], nor: &mut [u8], area: &mut [u8], s: Session) -> Se
     let line = s.line;
     let len = s.len;
     let next = obey(nand, nor, area, state, &line[..len]);
-    Session {
+    Reader {
         state: next,
         line,
         len: 0,
@@ -177,7 +177,7 @@ fn obey_line(nand: &mut [u8], nor: &mut [u8], area: &mut [u8], s: Session) -> Se
 }
 
 // The line with one byte more.
-fn pushed(mut s: Session, b: u8) -> Session
+fn pushed(mut s: Reader, b: u8) -> Reader
     requires { ⌜ s .len ≤ 48 ⌝ }
     ensures { λ r. ⌜ (r .len ≤ 48) × ((r .state ≡ s .state) × (take (r .len) (r .line) ≡ kept (take (s .len) (s .line)) b)) ⌝ }
 {
@@ -191,7 +191,7 @@ fn pushed(mut s: Session, b: u8) -> Session
 }
 
 // One byte of the input.
-fn accept(nand: &mut [u8], nor: &mut [u8], area: &mut [u8], s: Session, b: u8) -> Session
+fn accept(nand: &mut [u8], nor: &mut [u8], area: &mut [u8], s: Reader, b: u8) -> Reader
     requires { ⌜ s .len ≤ 48 ⌝ }
     ensures { λ r. ⌜ (r .len ≤ 48) × (desk (now (nand .exit)) (now (nor .exit)) r
         ≡ typed (desk (now (nand .entry)) (now (nor .entry)) s) b) ⌝ }
@@ -203,7 +203,7 @@ fn accept(nand: &mut [u8], nor: &mut [u8], area: &mut [u8], s: Session, b: u8) -
 }
 
 // Some bytes of the input, in order.
-fn feed(nand: &mut [u8], nor: &mut [u8], area: &mut [u8], s0: Session, bytes: &[u8]) -> Session
+fn feed(nand: &mut [u8], nor: &mut [u8], area: &mut [u8], s0: Reader, bytes: &[u8]) -> Reader
     requires { ⌜ s0 .len ≤ 48 ⌝ }
     ensures { λ r. ⌜ (r .len ≤ 48) × (desk (now (nand .exit)) (now (nor .exit)) r
         ≡ typedAll (desk (now (nand .entry)) (now (nor .entry)) s0) (now (bytes .entry))) ⌝ }
@@ -218,25 +218,25 @@ fn feed(nand: &mut [u8], nor: &mut [u8], area: &mut [u8], s0: Session, bytes: &[
     s
 }
 
-// How many bytes a read brought, and the session after them.
+// How many bytes a read brought, and the reader after them.
 struct Fed {
     n: usize,
-    session: Session,
+    reader: Reader,
 }
 
 // Reads once.
-fn read_some(nand: &mut [u8], nor: &mut [u8], area: &mut [u8], s: Session) -> Fed
+fn read_some(nand: &mut [u8], nor: &mut [u8], area: &mut [u8], s: Reader) -> Fed
     requires { ⌜ s .len ≤ 48 ⌝ }
-    ensures { λ r. ⌜ r .session .len ≤ 48 ⌝ }
+    ensures { λ r. ⌜ r .reader .len ≤ 48 ⌝ }
 {
     let mut buf = io::buffer();
     let n = io::count(libc::read(0, &mut buf), &buf);
     let t = feed(nand, nor, area, s, &buf[..n]);
-    Fed { n, session: t }
+    Fed { n, reader: t }
 }
 
 // Reads to the end of the input. A proved loop has to end, so this one counts its turns down, from a number that no run uses up.
-fn read_all(nand: &mut [u8], nor: &mut [u8], area: &mut [u8], s0: Session) -> Session
+fn read_all(nand: &mut [u8], nor: &mut [u8], area: &mut [u8], s0: Reader) -> Reader
     requires { ⌜ s0 .len ≤ 48 ⌝ }
     ensures { λ r. ⌜ r .len ≤ 48 ⌝ }
 {
@@ -244,7 +244,7 @@ fn read_all(nand: &mut [u8], nor: &mut [u8], area: &mut [u8], s0: Session) -> Se
     let mut turns: u64 = 18446744073709551615;
     while 0 < turns {
         let f = read_some(nand, nor, area, s);
-        s = f.session;
+        s = f.reader;
         let n = f.n;
         turns -= 1;
         if n == 0 {
@@ -256,7 +256,7 @@ fn read_all(nand: &mut [u8], nor: &mut [u8], area: &mut [u8], s0: Session) -> Se
 
 // Obeys every line of the input. A last line without its line feed counts.
 fn run(nand: &mut [u8], nor: &mut [u8], area: &mut [u8], state: State) {
-    let s0 = Session {
+    let s0 = Reader {
         state,
         line: [0u8; LINE_BYTES],
         len: 0,
