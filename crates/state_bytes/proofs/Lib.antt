@@ -1,0 +1,4 @@
+pub mod Signs
+pub mod SideBySide
+pub mod Writing
+pub mod Reading

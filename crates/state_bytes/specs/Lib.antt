@@ -1,0 +1,2 @@
+pub mod Signed
+pub mod StateBytes

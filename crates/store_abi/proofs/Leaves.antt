@@ -1,0 +1,71 @@
+-- What a call over areas leaves, from what the store's call gave and whether its areas have their lengths. Assumes nothing.
+use mathlib.Core.Path.{_≡_, sym, ap, ap₂}
+use mathlib.Core.Bool.{Bool, true, false, cond, _&&_}
+use mathlib.Core.List.{List, []}
+use Prim.Native.Nat.{ℕ}
+use lib.Dec.{eqb}
+use lib.ListN.{length}
+use borrow.Author.Tests.{eq-eqb, ne-eqb}
+use Rattle.codec.specs.Number.{bytes}
+use Rattle.plate.specs.declared.Lookup.{Lookup}
+use Rattle.search.specs.Answers.{SearchAnswer, TallyAnswer}
+use Rattle.store.specs.declared.State.{State}
+use Rattle.store.specs.Calls as Calls
+use Rattle.store.specs.Calls.{Outcome}
+use Rattle.state_bytes.specs.Signed.{sideBySide}
+use Rattle.state_bytes.specs.StateBytes.{stateBytes}
+use Rattle.store_abi.specs.Areas.{left, kept, called, Answered, answered, answeredIn}
+
+pub kept-new : (n : ℕ) (new old : List ℕ) → n ≡ 0 → kept n new old ≡ new
+kept-new n new old e = ap (λ (k : ℕ). kept k new old) e
+
+pub kept-old : (n : ℕ) (new old : List ℕ) → (n ≡ 0 → ⊥) → kept n new old ≡ old
+kept-old n new old h = ap (λ t. cond t new old) (ne-eqb n 0 h)
+
+-- ---- calls that write
+
+pub wrong-length : (area nand nor : List ℕ) (o : Outcome) → (length area ≡ 775 → ⊥) → left 20 area nand nor ≡ called area nand nor o
+unfolding called
+wrong-length area nand nor o h = rw (ne-eqb (length area) 775 h)
+
+pub right-length : (area nand nor area' nand' nor' : List ℕ) (n r : ℕ) (s : State) (o : Outcome) → length area ≡ 775 → r ≡ n
+    → area' ≡ kept n (stateBytes s) area → Calls.answered n nand' nor' s ≡ o → left r area' nand' nor' ≡ called area nand nor o
+unfolding called
+right-length area nand nor area' nand' nor' n r s o h e f g = rw (eq-eqb (length area) 775 h, e, f, ← g)
+
+-- ---- calls that answer, of one or two areas with lengths to keep
+
+pub one-wrong : (m n : ℕ) (a b : Answered) → (m ≡ n → ⊥) → b ≡ cond (eqb m n) a b
+one-wrong m n a b h = sym (ap (λ t. cond t a b) (ne-eqb m n h))
+
+pub one-right : (m n : ℕ) (a b : Answered) → m ≡ n → a ≡ cond (eqb m n) a b
+one-right m n a b h = sym (ap (λ t. cond t a b) (eq-eqb m n h))
+
+module _ (area answer : List ℕ) (n : ℕ) (rows : List ℕ) (a : Answered) where
+  pub state-wrong : (length area ≡ 775 → ⊥) → answered 20 rows answer ≡ answeredIn area answer n rows a
+  unfolding answeredIn
+  state-wrong h = sym (ap (λ t. cond (t && eqb (length answer) n) a (answered 20 rows answer)) (ne-eqb (length area) 775 h))
+
+  both : (t : Bool) → eqb (length answer) n ≡ t → length area ≡ 775 → cond t a (answered 20 rows answer) ≡ answeredIn area answer n rows a
+  unfolding answeredIn
+  both t f e = sym (ap₂ (λ u v. cond (u && v) a (answered 20 rows answer)) (eq-eqb (length area) 775 e) f)
+
+  pub answer-wrong : length area ≡ 775 → (length answer ≡ n → ⊥) → answered 20 rows answer ≡ answeredIn area answer n rows a
+  answer-wrong e h = both false (ne-eqb (length answer) n h) e
+
+  pub both-right : length area ≡ 775 → length answer ≡ n → a ≡ answeredIn area answer n rows a
+  both-right e h = both true (eq-eqb (length answer) n h) e
+
+pub search-left : (o : SearchAnswer) (n c : ℕ) (rows answer answer' : List ℕ)
+    → _≡_ {A = SearchAnswer} (record { number = n; count = c; area = rows }) o → answer' ≡ kept n (bytes 8 c) answer
+    → answered n rows answer' ≡ answered (o .number) (o .area) (kept (o .number) (bytes 8 (o .count)) answer)
+search-left o n c rows answer answer' e f = rw (f, ← e)
+
+pub tally-left : (o : TallyAnswer) (n : ℕ) (counts answer answer' : List ℕ)
+    → _≡_ {A = TallyAnswer} (record { number = n; counts = counts }) o → answer' ≡ kept n (sideBySide (bytes 8) counts) answer
+    → answered n [] answer' ≡ answered (o .number) [] (kept (o .number) (sideBySide (bytes 8) (o .counts)) answer)
+tally-left o n counts answer answer' e f = rw (f, ← e)
+
+pub plate-left : (p o : Lookup) (answer answer' : List ℕ) → p ≡ o → answer' ≡ kept (p .number) (bytes 8 (p .plate)) answer
+    → answered (p .number) [] answer' ≡ answered (o .number) [] (kept (o .number) (bytes 8 (o .plate)) answer)
+plate-left p o answer answer' e f = rw (f, e)

@@ -1,0 +1,83 @@
+-- The calls over byte areas and numbers: each equals the store's call on the state that its area holds. An accepted call leaves the
+-- next state there, and its other answers in an area of 8-byte numbers; a refusal leaves every area as it was. Assumes nothing.
+use mathlib.Core.Bool.{cond, _&&_}
+use mathlib.Core.List.{List, []}
+use Prim.Native.Nat.{ℕ}
+use lib.Dec.{eqb}
+use lib.IntN.{ℤ}
+use lib.ListN.{length}
+use Rattle.codec.specs.Number.{bytes}
+use Rattle.plate.specs.Plate.{lookup}
+use Rattle.search.specs.Answers.{SearchAnswer, TallyAnswer}
+use Rattle.store.specs.declared.State.{State}
+use Rattle.store.specs.World.{world}
+use Rattle.store.specs.Calls.{Outcome, formatOutcome, appendOutcome, closeOutcome, dropOutcome}
+use Rattle.store.specs.Queries.{searchOutcome, tallyOutcome}
+use Rattle.state_bytes.specs.Signed.{sideBySide}
+use Rattle.state_bytes.specs.StateBytes.{stateBytes, stateIn}
+
+-- what a call that writes leaves: its number, the state's area and both chips
+pub record Left : Type 0 where
+  pub number : ℕ
+  pub state : List ℕ
+  pub nand : List ℕ
+  pub nor : List ℕ
+
+abbrev pub left : ℕ → List ℕ → List ℕ → List ℕ → Left
+left number state nand nor = record { number = number; state = state; nand = nand; nor = nor }
+
+-- what stands in an area after a call with this number: something new only where it is accepted
+abbrev pub kept : ℕ → List ℕ → List ℕ → List ℕ
+kept number new old = cond (eqb number 0) new old
+
+-- number 20, before everything else: the state's area has another length
+unfoldable pub called : List ℕ → List ℕ → List ℕ → Outcome → Left
+called area nand nor o =
+    cond (eqb (length area) 775)
+    (left (o .number) (kept (o .number) (stateBytes (o .world .state)) area) (o .world .nand) (o .world .nor))
+    (left 20 area nand nor)
+
+unfoldable pub formatCalled : List ℕ → List ℕ → List ℕ → ℕ → Left
+formatCalled area nand nor slots = called area nand nor (formatOutcome nand nor slots)
+
+unfoldable pub appendCalled : List ℕ → List ℕ → List ℕ → ℕ → ℕ → ℤ → List ℕ → Left
+appendCalled area nand nor slots time load note =
+    called area nand nor (appendOutcome (world nand nor (stateIn area)) slots time load note)
+
+unfoldable pub closeCalled : List ℕ → List ℕ → List ℕ → ℕ → Left
+closeCalled area nand nor slots = called area nand nor (closeOutcome (world nand nor (stateIn area)) slots)
+
+unfoldable pub dropCalled : List ℕ → List ℕ → List ℕ → ℕ → Left
+dropCalled area nand nor slots = called area nand nor (dropOutcome (world nand nor (stateIn area)) slots)
+
+-- what a call that answers leaves: its number, the result area and the area of its answers
+pub record Answered : Type 0 where
+  pub number : ℕ
+  pub rows : List ℕ
+  pub answer : List ℕ
+
+abbrev pub answered : ℕ → List ℕ → List ℕ → Answered
+answered number rows answer = record { number = number; rows = rows; answer = answer }
+
+-- number 20, before everything else: the state's area has another length, or the answer's area another than n
+unfoldable pub answeredIn : List ℕ → List ℕ → ℕ → List ℕ → Answered → Answered
+answeredIn area answer n rows a = cond (eqb (length area) 775 && eqb (length answer) n) a (answered 20 rows answer)
+
+-- the count in 8 bytes
+unfoldable pub searchCalled : List ℕ → List ℕ → List ℕ → ℕ → ℕ → ℕ → ℤ → ℤ → List ℕ → List ℕ → Answered
+searchCalled area nand nor slots t1 t2 k1 k2 rows answer =
+    let o = searchOutcome (world nand nor (stateIn area)) slots t1 t2 k1 k2 rows in
+    answeredIn area answer 8 rows (answered (o .number) (o .area) (kept (o .number) (bytes 8 (o .count)) answer))
+
+-- 21 counts of 8 bytes
+unfoldable pub tallyCalled : List ℕ → List ℕ → List ℕ → ℕ → ℕ → ℕ → List ℕ → Answered
+tallyCalled area nand nor slots t1 t2 answer =
+    let o = tallyOutcome (world nand nor (stateIn area)) slots t1 t2 in
+    answeredIn area answer 168 [] (answered (o .number) [] (kept (o .number) (sideBySide (bytes 8) (o .counts)) answer))
+
+-- the plate in 8 bytes
+unfoldable pub plateCalled : ℤ → List ℕ → Answered
+plateCalled load answer =
+    cond (eqb (length answer) 8)
+    (answered (lookup load .number) [] (kept (lookup load .number) (bytes 8 (lookup load .plate)) answer))
+    (answered 20 [] answer)

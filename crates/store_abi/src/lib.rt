@@ -1,0 +1,193 @@
+// The calls for C and Rust: byte areas and numbers only. The state is a lent area of 775 bytes, the other answers are an area of
+// 8-byte numbers. Each call returns its number; 20 where one of these areas has another length, before everything else.
+use store::Answer;
+use store::State;
+ghost use mathlib.Core.Path.{_≡_};
+ghost use mathlib.Core.List.{[]};
+ghost use lib.ListN.{length};
+ghost use Rattle.codec.specs.Area.{splice};
+ghost use Rattle.codec.specs.Number.{bytes};
+ghost use Rattle.state_bytes.specs.Signed.{sideBySide};
+ghost use Rattle.state_bytes.specs.StateBytes.{stateBytes};
+ghost use Rattle.store_abi.specs.Areas.{left, kept, answered};
+ghost use Rattle.store_abi.specs.Areas.{formatCalled, appendCalled, closeCalled, dropCalled};
+ghost use Rattle.store_abi.specs.Areas.{searchCalled, tallyCalled, plateCalled};
+
+// One of the areas of state and answers has another length.
+const AREA_LENGTH: u8 = 20;
+// A count, or a plate.
+const NUMBER_BYTES: usize = 8;
+// A tally's counts.
+const COUNTS_BYTES: usize = 168;
+
+// The next state goes into its area if the call was accepted.
+fn keep_state(area: &mut [u8], a: Answer) -> u8
+    requires { ⌜ length (now area) ≡ 775 ⌝ }
+    ensures number { λ r. ⌜ r ≡ a .number ⌝ }
+    ensures state { λ _. ⌜ now (area .exit) ≡ kept (a .number) (stateBytes (a .state)) (now (area .entry)) ⌝ }
+{
+    if a.number == 0 {
+        let s = a.state;
+        state_bytes::put_state(area, s);
+    }
+    a.number
+}
+
+// A number goes into the area of the answer if the call was accepted.
+fn keep_number(answer: &mut [u8], number: u8, value: u64)
+    requires { ⌜ length (now answer) ≡ 8 ⌝ }
+    ensures { λ _. ⌜ now (answer .exit) ≡ kept number (bytes 8 value) (now (answer .entry)) ⌝ }
+{
+    if number == 0 {
+        codec::put_u64(answer, 0, value);
+    }
+}
+
+fn put_counts(answer: &mut [u8], counts: [u64; 21])
+    requires { ⌜ length (now answer) ≡ 168 ⌝ }
+    ensures { λ _. ⌜ now (answer .exit) ≡ sideBySide (bytes 8) counts ⌝ }
+{
+    let mut i: usize = 0;
+    while i < plate::PLATES {
+        let n = counts[i];
+        codec::put_u64(answer, NUMBER_BYTES * i, n);
+        i += 1;
+    }
+}
+
+// The counts go into the area of the answer if the tally was accepted.
+fn keep_counts(answer: &mut [u8], number: u8, counts: [u64; 21])
+    requires { ⌜ length (now answer) ≡ 168 ⌝ }
+    ensures { λ _. ⌜ now (answer .exit) ≡ kept number (sideBySide (bytes 8) counts) (now (answer .entry)) ⌝ }
+{
+    if number == 0 {
+        put_counts(answer, counts);
+    }
+}
+
+#[no_mangle]
+pub extern "C" fn store_format(state: &mut [u8], nand: &mut [u8], nor: &mut [u8], slots: u64) -> u8
+    ensures { λ r. ⌜ left r (now (state .exit)) (now (nand .exit)) (now (nor .exit))
+        ≡ formatCalled (now (state .entry)) (now (nand .entry)) (now (nor .entry)) slots ⌝ }
+{
+    if state.len() != state_bytes::STATE_BYTES {
+        return AREA_LENGTH;
+    }
+    let a = State::format(nand, nor, slots);
+    keep_state(state, a)
+}
+
+#[no_mangle]
+pub extern "C" fn store_append(
+    state: &mut [u8],
+    nand: &mut [u8],
+    nor: &mut [u8],
+    slots: u64,
+    time: u64,
+    load: i32,
+    note: &[u8; 20],
+) -> u8
+    ensures { λ r. ⌜ left r (now (state .exit)) (now (nand .exit)) (now (nor .exit))
+        ≡ appendCalled (now (state .entry)) (now (nand .entry)) (now (nor .entry)) slots time load (now (note .entry)) ⌝ }
+{
+    if state.len() != state_bytes::STATE_BYTES {
+        return AREA_LENGTH;
+    }
+    let n = *note;
+    let s = state_bytes::get_state(state);
+    let a = s.append(nand, nor, slots, time, load, n);
+    keep_state(state, a)
+}
+
+#[no_mangle]
+pub extern "C" fn store_close(state: &mut [u8], nand: &mut [u8], nor: &mut [u8], slots: u64) -> u8
+    ensures { λ r. ⌜ left r (now (state .exit)) (now (nand .exit)) (now (nor .exit))
+        ≡ closeCalled (now (state .entry)) (now (nand .entry)) (now (nor .entry)) slots ⌝ }
+{
+    if state.len() != state_bytes::STATE_BYTES {
+        return AREA_LENGTH;
+    }
+    let s = state_bytes::get_state(state);
+    let a = s.close(nand, nor, slots);
+    keep_state(state, a)
+}
+
+#[no_mangle]
+pub extern "C" fn store_drop(state: &mut [u8], nand: &mut [u8], nor: &[u8], slots: u64) -> u8
+    ensures { λ r. ⌜ left r (now (state .exit)) (now (nand .exit)) (now (nor .entry))
+        ≡ dropCalled (now (state .entry)) (now (nand .entry)) (now (nor .entry)) slots ⌝ }
+{
+    if state.len() != state_bytes::STATE_BYTES {
+        return AREA_LENGTH;
+    }
+    let s = state_bytes::get_state(state);
+    let a = s.drop(nand, nor, slots);
+    keep_state(state, a)
+}
+
+#[no_mangle]
+pub extern "C" fn store_search(
+    state: &[u8],
+    nand: &[u8],
+    nor: &[u8],
+    slots: u64,
+    t1: u64,
+    t2: u64,
+    k1: i32,
+    k2: i32,
+    rows: &mut [u8],
+    answer: &mut [u8],
+) -> u8
+    ensures { λ r. ⌜ answered r (now (rows .exit)) (now (answer .exit))
+        ≡ searchCalled (now (state .entry)) (now (nand .entry)) (now (nor .entry)) slots t1 t2 k1 k2 (now (rows .entry))
+        (now (answer .entry)) ⌝ }
+{
+    if state.len() != state_bytes::STATE_BYTES {
+        return AREA_LENGTH;
+    }
+    if answer.len() != NUMBER_BYTES {
+        return AREA_LENGTH;
+    }
+    let s = state_bytes::get_state(state);
+    let f = s.search(nand, nor, slots, t1, t2, k1, k2, rows);
+    keep_number(answer, f.number, f.count);
+    f.number
+}
+
+#[no_mangle]
+pub extern "C" fn store_tally(
+    state: &[u8],
+    nand: &[u8],
+    nor: &[u8],
+    slots: u64,
+    t1: u64,
+    t2: u64,
+    answer: &mut [u8],
+) -> u8
+    ensures { λ r. ⌜ answered r [] (now (answer .exit))
+        ≡ tallyCalled (now (state .entry)) (now (nand .entry)) (now (nor .entry)) slots t1 t2 (now (answer .entry)) ⌝ }
+{
+    if state.len() != state_bytes::STATE_BYTES {
+        return AREA_LENGTH;
+    }
+    if answer.len() != COUNTS_BYTES {
+        return AREA_LENGTH;
+    }
+    let s = state_bytes::get_state(state);
+    let t = s.tally(nand, nor, slots, t1, t2);
+    let counts = t.counts;
+    keep_counts(answer, t.number, counts);
+    t.number
+}
+
+#[no_mangle]
+pub extern "C" fn store_plate(load: i32, answer: &mut [u8]) -> u8
+    ensures { λ r. ⌜ answered r [] (now (answer .exit)) ≡ plateCalled load (now (answer .entry)) ⌝ }
+{
+    if answer.len() != NUMBER_BYTES {
+        return AREA_LENGTH;
+    }
+    let p = plate::plate_of(load);
+    keep_number(answer, p.number, p.plate as u64);
+    p.number
+}
