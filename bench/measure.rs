@@ -1,0 +1,124 @@
+//! Timed rounds: in each, every contender makes the same calls, one after the other.
+use crate::field::Field;
+use crate::lift::{Contender, Lift};
+use plain::Window;
+use std::time::{Duration, Instant};
+
+const ROUNDS_LEAST: usize = 7;
+const ROUNDS_MOST: usize = 31;
+const TIME_FOR_ROUNDS: Duration = Duration::from_millis(2_500);
+/// A contender repeats its calls until a round is long enough for the clock.
+const ROUND_LEAST: Duration = Duration::from_millis(2);
+const APPENDS_A_ROUND: usize = 20_000;
+
+/// Nanoseconds a call: the median round, the smallest and the largest.
+#[derive(Clone, Copy)]
+pub struct Figure {
+    pub median: f64,
+    pub least: f64,
+    pub most: f64,
+}
+
+impl Figure {
+    fn of(mut rounds: Vec<f64>) -> Option<Figure> {
+        rounds.sort_by(f64::total_cmp);
+        let least = *rounds.first()?;
+        Some(Figure { median: rounds[rounds.len() / 2], least, most: rounds[rounds.len() - 1] })
+    }
+}
+
+/// The figures of one kind of call at one S, in the contenders' order.
+pub struct Line {
+    pub slots: u64,
+    pub call: &'static str,
+    pub figures: [Option<Figure>; 4],
+}
+
+impl Line {
+    pub fn median(&self, contender: usize) -> Option<f64> {
+        self.figures[contender].map(|figure| figure.median)
+    }
+}
+
+fn ns_per_call(calls: usize, run: impl FnOnce()) -> f64 {
+    let start = Instant::now();
+    run();
+    start.elapsed().as_nanos() as f64 / calls as f64
+}
+
+/// Rounds until there are enough; `round` hands back one figure for each contender, the first to start given.
+fn rounds(mut round: impl FnMut(usize) -> [Option<f64>; 4]) -> [Option<Figure>; 4] {
+    let start = Instant::now();
+    let mut all: [Vec<f64>; 4] = Default::default();
+    let mut n = 0;
+    while n < ROUNDS_LEAST || (n < ROUNDS_MOST && start.elapsed() < TIME_FOR_ROUNDS) {
+        for (rounds, ns) in all.iter_mut().zip(round(n % 4)) {
+            rounds.extend(ns);
+        }
+        n += 1;
+    }
+    all.map(Figure::of)
+}
+
+/// Appends of the next lifts to the filled contenders: every round drops some segments.
+pub fn appends(field: &mut Field) -> Line {
+    let figures = rounds(|first| {
+        let lifts: Vec<Lift> = field.next_lifts(APPENDS_A_ROUND);
+        let ns = one_round(field, first, |contender, _| {
+            ns_per_call(lifts.len(), || contender.append_all(&lifts))
+        });
+        field.settle(&lifts);
+        ns
+    });
+    field.check_bytes();
+    Line { slots: field.slots, call: "append", figures }
+}
+
+pub fn searches(field: &mut Field, call: &'static str, windows: &[Window]) -> Line {
+    field.check_searches(windows);
+    repeated(field, call, windows, |contender, rows| contender.search_all(windows, rows))
+}
+
+pub fn tallies(field: &mut Field, call: &'static str, windows: &[Window]) -> Line {
+    field.check_tallies(windows);
+    repeated(field, call, windows, |contender, _| contender.tally_all(windows))
+}
+
+fn one_round(
+    field: &mut Field,
+    first: usize,
+    mut time: impl FnMut(&mut dyn Contender, usize) -> f64,
+) -> [Option<f64>; 4] {
+    let mut ns = [None; 4];
+    let mut contenders = field.contenders();
+    for i in (0..4).map(|i| (first + i) % 4) {
+        ns[i] = contenders[i].as_mut().map(|contender| time(&mut **contender, i));
+    }
+    ns
+}
+
+fn repeated(
+    field: &mut Field,
+    call: &'static str,
+    windows: &[Window],
+    run: impl Fn(&mut dyn Contender, &mut [u8]),
+) -> Line {
+    let mut rows = std::mem::take(&mut field.rows);
+    let mut repeats = [1; 4];
+    one_round(field, 0, |contender, i| {
+        let start = Instant::now();
+        run(contender, &mut rows);
+        let once = start.elapsed().as_nanos().max(1);
+        repeats[i] = (ROUND_LEAST.as_nanos() / once) as usize + 1;
+        once as f64
+    });
+    let figures = rounds(|first| {
+        one_round(field, first, |contender, i| {
+            ns_per_call(windows.len() * repeats[i], || {
+                (0..repeats[i]).for_each(|_| run(contender, &mut rows))
+            })
+        })
+    });
+    field.rows = rows;
+    Line { slots: field.slots, call, figures }
+}

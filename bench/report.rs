@@ -1,0 +1,76 @@
+//! The tables, as Markdown, and the targets with what was measured.
+use crate::field::NAMES;
+use crate::measure::{Figure, Line};
+
+pub const APPEND: &str = "append";
+pub const RECENT_DAY: &str = "search, a day of the last 30";
+pub const ANY_DAY: &str = "search, any day";
+pub const WHOLE_LOG: &str = "search, whole log";
+pub const ABSENT: &str = "search, absent load";
+pub const TALLY_DAY: &str = "tally, any day";
+pub const TALLY_ALL: &str = "tally, whole log";
+
+const STACK_MOST: usize = 65_536;
+
+fn cell(figure: Option<Figure>) -> String {
+    figure.map_or("-".into(), |f| format!("{:.0} ({:.0} to {:.0})", f.median, f.least, f.most))
+}
+
+fn ratio(line: &Line, above: usize, below: usize) -> Option<f64> {
+    Some(line.median(above)? / line.median(below)?)
+}
+
+fn ratio_cell(line: &Line, above: usize, below: usize) -> String {
+    ratio(line, above, below).map_or("-".into(), |r| format!("{r:.2}"))
+}
+
+pub fn table(lines: &[Line]) {
+    let names = NAMES.join(" | ");
+    println!("| S | call | {names} | store/(a) | (b)/store | (c)/store |");
+    println!("|---|---|---|---|---|---|---|---|---|");
+    for line in lines {
+        let cells = line.figures.map(cell).join(" | ");
+        let ratios = [(0, 1), (2, 0), (3, 0)].map(|(above, below)| ratio_cell(line, above, below));
+        println!("| {} | {} | {cells} | {} |", line.slots, line.call, ratios.join(" | "));
+    }
+}
+
+pub fn stacks(depths: &[(&str, usize)]) {
+    println!("| call | stack, bytes |");
+    println!("|---|---|");
+    for (call, bytes) in depths {
+        println!("| {call} | {bytes} |");
+    }
+}
+
+fn target(what: &str, measured: String, reached: bool) {
+    println!("| {what} | {measured} | {} |", if reached { "reached" } else { "missed" });
+}
+
+fn find<'a>(lines: &'a [Line], slots: u64, call: &str) -> &'a Line {
+    lines.iter().find(|line| line.slots == slots && line.call == call).expect("a measured line")
+}
+
+pub fn targets(lines: &[Line], depths: &[(&str, usize)]) {
+    println!("| target | measured | |");
+    println!("|---|---|---|");
+    for line in lines.iter().filter(|line| !line.call.starts_with("tally")) {
+        let ratio = ratio(line, 0, 1).expect("both are always measured");
+        let what = format!("{}, S = {}: at most 1.5 times (a)", line.call, line.slots);
+        target(&what, format!("{ratio:.2} times"), ratio <= 1.5);
+    }
+    let [small, large] = [2, 4_096].map(|slots| find(lines, slots, APPEND).median(0).expect("measured"));
+    let ratio_of_sizes = large / small;
+    target("append at S = 4096: within 1.3 times of S = 2", format!("{ratio_of_sizes:.2} times"), ratio_of_sizes <= 1.3);
+    for call in [RECENT_DAY, ANY_DAY] {
+        for (other, name) in [(2, "(b)"), (3, "(c)")] {
+            let what = format!("{call}, S = 4096: ten times faster than {name}");
+            match ratio(find(lines, 4_096, call), other, 0) {
+                Some(faster) => target(&what, format!("{faster:.1} times"), faster >= 10.0),
+                None => println!("| {what} | not measured | skipped |"),
+            }
+        }
+    }
+    let deepest = depths.iter().map(|&(_, bytes)| bytes).max().expect("some calls");
+    target("a call's stack: under 64 KiB", format!("{deepest} bytes"), deepest < STACK_MOST);
+}
