@@ -34,11 +34,22 @@ pub fn check() -> [usize; 13] {
     seen
 }
 
-/// Up to three bytes are changed, mostly in headers, trees and the state.
+/// Up to three bytes are changed, mostly in headers, trees and the state; now and then the serials, S or NOR's length.
 fn poke(random: &mut Random, store: &mut Proved) {
+    match random.within(0, 31) {
+        0 => store.slots += 1,
+        1 => store.nor.truncate(6_000),
+        2 => {
+            let last = random.within(999_999_996, 999_999_999) as u32;
+            store.state[..4].copy_from_slice(&last.to_le_bytes());
+            store.state[4..8].copy_from_slice(&last.to_le_bytes());
+        }
+        _ => {}
+    }
+    let slots = store.nand.len() / SLOT_BYTES;
     for _ in 0..random.within(0, 3) {
         let value = [0, 1, 127, 255, random.next() as u8][random.within(0, 4) as usize];
-        let slot = random.within(0, store.slots as i64 - 1) as usize * SLOT_BYTES;
+        let slot = random.within(0, slots as i64 - 1) as usize * SLOT_BYTES;
         match random.within(0, 5) {
             0 => store.state[random.within(0, STATE_BYTES as i64 - 1) as usize] = value,
             1 => store.state[random.within(0, 66) as usize] = value,

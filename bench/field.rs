@@ -91,9 +91,10 @@ impl Field {
         assert!(self.in_place.nor == self.proved.nor, "NOR differs");
     }
 
-    /// All contenders find the same rows.
-    pub fn check_searches(&mut self, windows: &[Window]) {
+    /// All contenders find the same rows; how many, over all windows.
+    pub fn check_searches(&mut self, windows: &[Window]) -> usize {
         let room = self.rows.len();
+        let mut total = 0;
         for window in windows {
             let mut known: Option<(usize, Vec<u8>)> = None;
             for contender in self.contenders().into_iter().flatten() {
@@ -104,15 +105,20 @@ impl Field {
                     None => known = Some((found, rows)),
                 }
             }
+            total += known.map_or(0, |(found, _)| found);
         }
+        total
     }
 
-    /// All contenders count alike.
-    pub fn check_tallies(&mut self, windows: &[Window]) {
+    /// All contenders count alike; how many lifts, over all windows.
+    pub fn check_tallies(&mut self, windows: &[Window]) -> usize {
+        let mut total = 0;
         for w in windows {
             let counts = self.contenders().into_iter().flatten().map(|c| c.tally(w.t1, w.t2));
             let counts: Vec<_> = counts.collect();
             assert!(counts.windows(2).all(|pair| pair[0] == pair[1]), "tallies differ at {w:?}");
+            total += counts[0].iter().sum::<u64>() as usize;
         }
+        total
     }
 }

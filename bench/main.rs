@@ -1,5 +1,6 @@
 //! The store against an in-place implementation, SQLite and a plain array, on the same lifts and questions.
 mod agree;
+mod clock;
 mod field;
 mod gym;
 mod in_place;
@@ -24,7 +25,7 @@ fn measured(slots: u64) -> Vec<Line> {
     let mut field = Field::filled(slots);
     field.check_bytes();
     field.check_searches(&[everything(&field)]);
-    let append = appends(&mut field);
+    let append = appends(&mut field, report::APPEND);
     let mut asked = Questions::new(&field);
     // Fewer questions where each takes long.
     let (days, wide) = if slots > 1_000 { (64, 4) } else { (64, 16) };
@@ -32,7 +33,7 @@ fn measured(slots: u64) -> Vec<Line> {
     let any = asked.days(days, u64::MAX);
     let whole = asked.whole_log(wide);
     let absent = asked.absent(wide);
-    eprintln!("S = {slots}: {} lifts retained, all answers alike", field.retained());
+    println!("S = {slots}: {} lifts retained; chips and state of (a) are the store's, byte for byte.", field.retained());
     vec![
         append,
         searches(&mut field, report::RECENT_DAY, &recent),
@@ -67,16 +68,19 @@ fn depths() -> Vec<(&'static str, usize)> {
     ]
 }
 
+/// The first argument names the archive's undefined symbols.
 fn main() {
+    let symbols = std::env::args().nth(1).unwrap_or_default();
     let seen = agree::check();
-    println!("Store and (a) answer alike on damaged chips, odd states and odd arguments; answers by number:");
-    println!("{seen:?}\n");
+    println!("Store and (a) give the same numbers, bytes and rows on damaged chips, odd states and odd arguments;");
+    println!("answers by number, 0 first: {seen:?}.");
     let lines: Vec<Line> = SIZES.into_iter().flat_map(measured).collect();
-    println!("Nanoseconds a call: the median round (the smallest to the largest).\n");
+    println!("All contenders find the same rows and counts.\n");
+    println!("Nanoseconds of processor time a call: the median round (the smallest to the largest). Lifts: found or counted by a call, on average.\n");
     report::table(&lines);
     let depths = depths();
     println!();
     report::stacks(&depths);
     println!();
-    report::targets(&lines, &depths);
+    report::targets(&lines, &depths, &symbols);
 }

@@ -1,4 +1,5 @@
 //! Timed rounds: in each, every contender makes the same calls, one after the other.
+use crate::clock;
 use crate::field::Field;
 use crate::lift::{Contender, Lift};
 use plain::Window;
@@ -7,8 +8,8 @@ use std::time::{Duration, Instant};
 const ROUNDS_LEAST: usize = 7;
 const ROUNDS_MOST: usize = 31;
 const TIME_FOR_ROUNDS: Duration = Duration::from_millis(2_500);
-/// A contender repeats its calls until a round is long enough for the clock.
-const ROUND_LEAST: Duration = Duration::from_millis(2);
+/// A contender repeats its calls until a round is long enough for the clock, in nanoseconds.
+const ROUND_LEAST: f64 = 2e6;
 const APPENDS_A_ROUND: usize = 20_000;
 
 /// Nanoseconds a call: the median round, the smallest and the largest.
@@ -31,6 +32,8 @@ impl Figure {
 pub struct Line {
     pub slots: u64,
     pub call: &'static str,
+    /// Lifts found or counted by a call, on average.
+    pub found: f64,
     pub figures: [Option<Figure>; 4],
 }
 
@@ -41,9 +44,9 @@ impl Line {
 }
 
 fn ns_per_call(calls: usize, run: impl FnOnce()) -> f64 {
-    let start = Instant::now();
+    let start = clock::nanoseconds();
     run();
-    start.elapsed().as_nanos() as f64 / calls as f64
+    (clock::nanoseconds() - start) as f64 / calls as f64
 }
 
 /// Rounds until there are enough; `round` hands back one figure for each contender, the first to start given.
@@ -61,7 +64,7 @@ fn rounds(mut round: impl FnMut(usize) -> [Option<f64>; 4]) -> [Option<Figure>; 
 }
 
 /// Appends of the next lifts to the filled contenders: every round drops some segments.
-pub fn appends(field: &mut Field) -> Line {
+pub fn appends(field: &mut Field, call: &'static str) -> Line {
     let figures = rounds(|first| {
         let lifts: Vec<Lift> = field.next_lifts(APPENDS_A_ROUND);
         let ns = one_round(field, first, |contender, _| {
@@ -71,17 +74,19 @@ pub fn appends(field: &mut Field) -> Line {
         ns
     });
     field.check_bytes();
-    Line { slots: field.slots, call: "append", figures }
+    Line { slots: field.slots, call, found: 1.0, figures }
 }
 
 pub fn searches(field: &mut Field, call: &'static str, windows: &[Window]) -> Line {
-    field.check_searches(windows);
-    repeated(field, call, windows, |contender, rows| contender.search_all(windows, rows))
+    let found = field.check_searches(windows);
+    let figures = repeated(field, windows, |contender, rows| contender.search_all(windows, rows));
+    Line { slots: field.slots, call, found: found as f64 / windows.len() as f64, figures }
 }
 
 pub fn tallies(field: &mut Field, call: &'static str, windows: &[Window]) -> Line {
-    field.check_tallies(windows);
-    repeated(field, call, windows, |contender, _| contender.tally_all(windows))
+    let found = field.check_tallies(windows);
+    let figures = repeated(field, windows, |contender, _| contender.tally_all(windows));
+    Line { slots: field.slots, call, found: found as f64 / windows.len() as f64, figures }
 }
 
 fn one_round(
@@ -99,18 +104,15 @@ fn one_round(
 
 fn repeated(
     field: &mut Field,
-    call: &'static str,
     windows: &[Window],
     run: impl Fn(&mut dyn Contender, &mut [u8]),
-) -> Line {
+) -> [Option<Figure>; 4] {
     let mut rows = std::mem::take(&mut field.rows);
     let mut repeats = [1; 4];
     one_round(field, 0, |contender, i| {
-        let start = Instant::now();
-        run(contender, &mut rows);
-        let once = start.elapsed().as_nanos().max(1);
-        repeats[i] = (ROUND_LEAST.as_nanos() / once) as usize + 1;
-        once as f64
+        let once = ns_per_call(1, || run(contender, &mut rows)).max(1.0);
+        repeats[i] = (ROUND_LEAST / once) as usize + 1;
+        once
     });
     let figures = rounds(|first| {
         one_round(field, first, |contender, i| {
@@ -120,5 +122,5 @@ fn repeated(
         })
     });
     field.rows = rows;
-    Line { slots: field.slots, call, figures }
+    figures
 }

@@ -12,8 +12,23 @@ pub const TALLY_ALL: &str = "tally, whole log";
 
 const STACK_MOST: usize = 65_536;
 
+/// A whole number with its thousands apart.
+fn grouped(number: f64) -> String {
+    let digits = format!("{number:.0}");
+    let mut text = String::new();
+    for (i, digit) in digits.chars().enumerate() {
+        if i > 0 && (digits.len() - i) % 3 == 0 {
+            text.push(',');
+        }
+        text.push(digit);
+    }
+    text
+}
+
 fn cell(figure: Option<Figure>) -> String {
-    figure.map_or("-".into(), |f| format!("{:.0} ({:.0} to {:.0})", f.median, f.least, f.most))
+    figure.map_or("-".into(), |f| {
+        format!("{} ({} to {})", grouped(f.median), grouped(f.least), grouped(f.most))
+    })
 }
 
 fn ratio(line: &Line, above: usize, below: usize) -> Option<f64> {
@@ -26,12 +41,13 @@ fn ratio_cell(line: &Line, above: usize, below: usize) -> String {
 
 pub fn table(lines: &[Line]) {
     let names = NAMES.join(" | ");
-    println!("| S | call | {names} | store/(a) | (b)/store | (c)/store |");
-    println!("|---|---|---|---|---|---|---|---|---|");
+    println!("| S | call | lifts | {names} | store/(a) | (b)/store | (c)/store |");
+    println!("|---|---|---|---|---|---|---|---|---|---|");
     for line in lines {
         let cells = line.figures.map(cell).join(" | ");
         let ratios = [(0, 1), (2, 0), (3, 0)].map(|(above, below)| ratio_cell(line, above, below));
-        println!("| {} | {} | {cells} | {} |", line.slots, line.call, ratios.join(" | "));
+        let found = grouped(line.found);
+        println!("| {} | {} | {found} | {cells} | {} |", line.slots, line.call, ratios.join(" | "));
     }
 }
 
@@ -39,7 +55,7 @@ pub fn stacks(depths: &[(&str, usize)]) {
     println!("| call | stack, bytes |");
     println!("|---|---|");
     for (call, bytes) in depths {
-        println!("| {call} | {bytes} |");
+        println!("| {call} | {} |", grouped(*bytes as f64));
     }
 }
 
@@ -51,9 +67,20 @@ fn find<'a>(lines: &'a [Line], slots: u64, call: &str) -> &'a Line {
     lines.iter().find(|line| line.slots == slots && line.call == call).expect("a measured line")
 }
 
-pub fn targets(lines: &[Line], depths: &[(&str, usize)]) {
+/// The outside functions that an archive without a heap may call.
+const MEMORY_FUNCTIONS: [&str; 5] = ["memcpy", "memmove", "memset", "memcmp", "bcmp"];
+
+pub fn targets(lines: &[Line], depths: &[(&str, usize)], symbols: &str) {
     println!("| target | measured | |");
     println!("|---|---|---|");
+    time_targets(lines);
+    let heapless = symbols.split_whitespace().all(|symbol| MEMORY_FUNCTIONS.contains(&symbol));
+    target("no heap: the archive calls nothing outside but memory functions", symbols.to_string(), heapless);
+    let deepest = depths.iter().map(|&(_, bytes)| bytes).max().expect("some calls");
+    target("a call's stack: under 64 KiB", format!("{} bytes", grouped(deepest as f64)), deepest < STACK_MOST);
+}
+
+fn time_targets(lines: &[Line]) {
     for line in lines.iter().filter(|line| !line.call.starts_with("tally")) {
         let ratio = ratio(line, 0, 1).expect("both are always measured");
         let what = format!("{}, S = {}: at most 1.5 times (a)", line.call, line.slots);
@@ -71,6 +98,4 @@ pub fn targets(lines: &[Line], depths: &[(&str, usize)]) {
             }
         }
     }
-    let deepest = depths.iter().map(|&(_, bytes)| bytes).max().expect("some calls");
-    target("a call's stack: under 64 KiB", format!("{deepest} bytes"), deepest < STACK_MOST);
 }
