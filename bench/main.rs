@@ -33,7 +33,10 @@ fn measured(slots: u64) -> Vec<Line> {
     let any = asked.days(days, u64::MAX);
     let whole = asked.whole_log(wide);
     let absent = asked.absent(wide);
-    println!("S = {slots}: {} lifts retained; chips and state of (a) are the store's, byte for byte.", field.retained());
+    println!(
+        "S = {slots}: {} lifts retained; chips and state of (a) are the store's, byte for byte.",
+        field.retained()
+    );
     vec![
         append,
         searches(&mut field, report::RECENT_DAY, &recent),

@@ -10,6 +10,8 @@ const ROUNDS_MOST: usize = 31;
 const TIME_FOR_ROUNDS: Duration = Duration::from_millis(2_500);
 /// A contender repeats its calls until a round is long enough for the clock, in nanoseconds.
 const ROUND_LEAST: f64 = 2e6;
+/// Appends change the log, so their number is fixed: every run asks the same questions of the same lifts.
+const APPEND_ROUNDS: usize = 15;
 const APPENDS_A_ROUND: usize = 20_000;
 
 /// Nanoseconds a call: the median round, the smallest and the largest.
@@ -49,12 +51,11 @@ fn ns_per_call(calls: usize, run: impl FnOnce()) -> f64 {
     (clock::nanoseconds() - start) as f64 / calls as f64
 }
 
-/// Rounds until there are enough; `round` hands back one figure for each contender, the first to start given.
-fn rounds(mut round: impl FnMut(usize) -> [Option<f64>; 4]) -> [Option<Figure>; 4] {
-    let start = Instant::now();
+/// Rounds while they are wanted; `round` hands back one figure for each contender, the first to start given.
+fn rounds(wanted: impl Fn(usize) -> bool, mut round: impl FnMut(usize) -> [Option<f64>; 4]) -> [Option<Figure>; 4] {
     let mut all: [Vec<f64>; 4] = Default::default();
     let mut n = 0;
-    while n < ROUNDS_LEAST || (n < ROUNDS_MOST && start.elapsed() < TIME_FOR_ROUNDS) {
+    while wanted(n) {
         for (rounds, ns) in all.iter_mut().zip(round(n % 4)) {
             rounds.extend(ns);
         }
@@ -65,14 +66,15 @@ fn rounds(mut round: impl FnMut(usize) -> [Option<f64>; 4]) -> [Option<Figure>; 
 
 /// Appends of the next lifts to the filled contenders: every round drops some segments.
 pub fn appends(field: &mut Field, call: &'static str) -> Line {
-    let figures = rounds(|first| {
-        let lifts: Vec<Lift> = field.next_lifts(APPENDS_A_ROUND);
-        let ns = one_round(field, first, |contender, _| {
-            ns_per_call(lifts.len(), || contender.append_all(&lifts))
-        });
-        field.settle(&lifts);
-        ns
-    });
+    let figures = rounds(
+        |n| n < APPEND_ROUNDS,
+        |first| {
+            let lifts: Vec<Lift> = field.next_lifts(APPENDS_A_ROUND);
+            let ns = one_round(field, first, |contender, _| ns_per_call(lifts.len(), || contender.append_all(&lifts)));
+            field.settle(&lifts);
+            ns
+        },
+    );
     field.check_bytes();
     Line { slots: field.slots, call, found: 1.0, figures }
 }
@@ -102,11 +104,7 @@ fn one_round(
     ns
 }
 
-fn repeated(
-    field: &mut Field,
-    windows: &[Window],
-    run: impl Fn(&mut dyn Contender, &mut [u8]),
-) -> [Option<Figure>; 4] {
+fn repeated(field: &mut Field, windows: &[Window], run: impl Fn(&mut dyn Contender, &mut [u8])) -> [Option<Figure>; 4] {
     let mut rows = std::mem::take(&mut field.rows);
     let mut repeats = [1; 4];
     one_round(field, 0, |contender, i| {
@@ -114,11 +112,11 @@ fn repeated(
         repeats[i] = (ROUND_LEAST / once) as usize + 1;
         once
     });
-    let figures = rounds(|first| {
+    let start = Instant::now();
+    let wanted = |n| n < ROUNDS_LEAST || (n < ROUNDS_MOST && start.elapsed() < TIME_FOR_ROUNDS);
+    let figures = rounds(wanted, |first| {
         one_round(field, first, |contender, i| {
-            ns_per_call(windows.len() * repeats[i], || {
-                (0..repeats[i]).for_each(|_| run(contender, &mut rows))
-            })
+            ns_per_call(windows.len() * repeats[i], || (0..repeats[i]).for_each(|_| run(contender, &mut rows)))
         })
     });
     field.rows = rows;

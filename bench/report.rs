@@ -26,9 +26,7 @@ fn grouped(number: f64) -> String {
 }
 
 fn cell(figure: Option<Figure>) -> String {
-    figure.map_or("-".into(), |f| {
-        format!("{} ({} to {})", grouped(f.median), grouped(f.least), grouped(f.most))
-    })
+    figure.map_or("-".into(), |f| format!("{} ({} to {})", grouped(f.median), grouped(f.least), grouped(f.most)))
 }
 
 fn ratio(line: &Line, above: usize, below: usize) -> Option<f64> {
@@ -75,7 +73,7 @@ pub fn targets(lines: &[Line], depths: &[(&str, usize)], symbols: &str) {
     println!("|---|---|---|");
     time_targets(lines);
     let heapless = symbols.split_whitespace().all(|symbol| MEMORY_FUNCTIONS.contains(&symbol));
-    target("no heap: the archive calls nothing outside but memory functions", symbols.to_string(), heapless);
+    target("no heap: the archive calls nothing outside but memory functions", symbols.trim().to_string(), heapless);
     let deepest = depths.iter().map(|&(_, bytes)| bytes).max().expect("some calls");
     target("a call's stack: under 64 KiB", format!("{} bytes", grouped(deepest as f64)), deepest < STACK_MOST);
 }
@@ -88,7 +86,11 @@ fn time_targets(lines: &[Line]) {
     }
     let [small, large] = [2, 4_096].map(|slots| find(lines, slots, APPEND).median(0).expect("measured"));
     let ratio_of_sizes = large / small;
-    target("append at S = 4096: within 1.3 times of S = 2", format!("{ratio_of_sizes:.2} times"), ratio_of_sizes <= 1.3);
+    target(
+        "append at S = 4096: within 1.3 times of S = 2",
+        format!("{ratio_of_sizes:.2} times"),
+        ratio_of_sizes <= 1.3,
+    );
     for call in [RECENT_DAY, ANY_DAY] {
         for (other, name) in [(2, "(b)"), (3, "(c)")] {
             let what = format!("{call}, S = 4096: ten times faster than {name}");

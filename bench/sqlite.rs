@@ -7,13 +7,22 @@ use std::ptr::null_mut;
 #[link(name = "sqlite3")]
 extern "C" {
     fn sqlite3_open(name: *const c_char, db: *mut *mut c_void) -> c_int;
-    fn sqlite3_exec(db: *mut c_void, sql: *const c_char, call: *const c_void, arg: *mut c_void,
-        error: *mut *mut c_char) -> c_int;
-    fn sqlite3_prepare_v2(db: *mut c_void, sql: *const c_char, len: c_int, out: *mut *mut c_void,
-        tail: *mut *const c_char) -> c_int;
+    fn sqlite3_exec(
+        db: *mut c_void,
+        sql: *const c_char,
+        call: *const c_void,
+        arg: *mut c_void,
+        error: *mut *mut c_char,
+    ) -> c_int;
+    fn sqlite3_prepare_v2(
+        db: *mut c_void,
+        sql: *const c_char,
+        len: c_int,
+        out: *mut *mut c_void,
+        tail: *mut *const c_char,
+    ) -> c_int;
     fn sqlite3_bind_int64(statement: *mut c_void, i: c_int, value: i64) -> c_int;
-    fn sqlite3_bind_blob(statement: *mut c_void, i: c_int, bytes: *const u8, len: c_int,
-        free: *const c_void) -> c_int;
+    fn sqlite3_bind_blob(statement: *mut c_void, i: c_int, bytes: *const u8, len: c_int, free: *const c_void) -> c_int;
     fn sqlite3_step(statement: *mut c_void) -> c_int;
     fn sqlite3_reset(statement: *mut c_void) -> c_int;
     fn sqlite3_column_int64(statement: *mut c_void, i: c_int) -> i64;

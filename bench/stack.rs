@@ -14,8 +14,12 @@ extern "C" {
     fn pthread_attr_init(attributes: *mut Attributes) -> c_int;
     fn pthread_attr_setstack(attributes: *mut Attributes, low: *mut u8, len: usize) -> c_int;
     fn pthread_attr_destroy(attributes: *mut Attributes) -> c_int;
-    fn pthread_create(thread: *mut usize, attributes: *const Attributes,
-        run: extern "C" fn(*mut c_void) -> *mut c_void, argument: *mut c_void) -> c_int;
+    fn pthread_create(
+        thread: *mut usize,
+        attributes: *const Attributes,
+        run: extern "C" fn(*mut c_void) -> *mut c_void,
+        argument: *mut c_void,
+    ) -> c_int;
     fn pthread_join(thread: usize, result: *mut *mut c_void) -> c_int;
 }
 

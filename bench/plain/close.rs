@@ -37,7 +37,11 @@ impl State {
 
     /// The second Bloom page is used only for five sections.
     fn bloom_pages(&self) -> usize {
-        if bloom::sections_of(self.count) == 5 { 2 } else { 1 }
+        if bloom::sections_of(self.count) == 5 {
+            2
+        } else {
+            1
+        }
     }
 
     pub(crate) fn close_segment(&mut self, nand: &mut [u8], nor: &mut [u8], slots: u64) {

@@ -60,11 +60,8 @@ impl<'a> Segment<'a> {
     }
 
     pub fn record(&self, place: usize) -> &'a [u8; RECORD_BYTES] {
-        let (area, from) = if place < self.tail_from {
-            (&self.slot[..], place)
-        } else {
-            (&self.tail[..], place - self.tail_from)
-        };
+        let (area, from) =
+            if place < self.tail_from { (&self.slot[..], place) } else { (&self.tail[..], place - self.tail_from) };
         area[from * RECORD_BYTES..][..RECORD_BYTES].try_into().unwrap()
     }
 

@@ -61,14 +61,7 @@ impl State {
     }
 
     /// How many lifts of the time window belong to each plate.
-    pub fn tally(
-        &self,
-        nand: &[u8],
-        nor: &[u8],
-        slots: u64,
-        t1: u64,
-        t2: u64,
-    ) -> Result<[u64; 21], Ground> {
+    pub fn tally(&self, nand: &[u8], nor: &[u8], slots: u64, t1: u64, t2: u64) -> Result<[u64; 21], Ground> {
         self.check(nand, nor, slots)?;
         let asked = Window { t1, t2, k1: LOAD_MIN, k2: LOAD_MAX }.check()?;
         let log = Log { state: self, nand, nor, slots };
@@ -100,11 +93,7 @@ impl Window {
 
 impl<'a> Log<'a> {
     /// Every segment that may hold a match, the newest first.
-    fn visit(
-        &self,
-        asked: &Asked,
-        mut take: impl FnMut(&Segment<'a>, Matches),
-    ) -> Result<(), Ground> {
+    fn visit(&self, asked: &Asked, mut take: impl FnMut(&Segment<'a>, Matches)) -> Result<(), Ground> {
         let state = self.state;
         if state.count > 0 {
             let segment = Segment::open(self);
@@ -144,9 +133,7 @@ impl<'a> Log<'a> {
 
     fn may_match(&self, number: usize, header: &Header, asked: &Asked) -> bool {
         let meets = header.high >= asked.k1 && header.low <= asked.k2;
-        meets
-            && (asked.k1 < asked.k2
-                || bloom::may_hold(slot(self.nand, number), header.count, asked.k1))
+        meets && (asked.k1 < asked.k2 || bloom::may_hold(slot(self.nand, number), header.count, asked.k1))
     }
 }
 

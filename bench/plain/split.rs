@@ -13,9 +13,17 @@ pub fn mid_of(x: i32, y: i32, loads: &[i32; 13]) -> i32 {
     } else if l <= x && y <= h {
         half(x, y)
     } else if l <= x && x < h && h <= y {
-        if 2 * (h - x) > h - l { half(x, h) } else { h.max(half(x, y)) }
+        if 2 * (h - x) > h - l {
+            half(x, h)
+        } else {
+            h.max(half(x, y))
+        }
     } else if x <= l && l < y && y <= h {
-        if 2 * (y - l) > h - l { half(l, y) } else { l.min(half(x, y)) }
+        if 2 * (y - l) > h - l {
+            half(l, y)
+        } else {
+            l.min(half(x, y))
+        }
     } else {
         half(x, y)
     };

@@ -69,18 +69,21 @@ pub enum Plan {
     /// The segment closes first.
     Full,
     Root,
-    Entry { bucket: u8, i: usize },
+    Entry {
+        bucket: u8,
+        i: usize,
+    },
     /// A new child with range (x, y] below `parent`, which is split at `mid` if it was not yet.
-    Child { parent: u8, mid: Option<u32>, side: usize, x: u32, y: u32 },
+    Child {
+        parent: u8,
+        mid: Option<u32>,
+        side: usize,
+        x: u32,
+        y: u32,
+    },
 }
 
-pub fn plan(
-    tree: &[u8; TREE_BYTES],
-    buckets: u8,
-    count: u16,
-    loads: &[i32; 13],
-    code: u32,
-) -> Result<Plan, Ground> {
+pub fn plan(tree: &[u8; TREE_BYTES], buckets: u8, count: u16, loads: &[i32; 13], code: u32) -> Result<Plan, Ground> {
     match count {
         0 => return Ok(Plan::Root),
         LIFTS_MAX => return Ok(Plan::Full),
