@@ -15,13 +15,13 @@ mod sqlite;
 mod stack;
 
 use field::Field;
-use measure::{appends, searches, tallies, Line};
+use measure::{append_ratio, appends, searches, tallies, Line};
 use proved::Proved;
 use questions::{everything, Questions};
 
 const SIZES: [u64; 3] = [2, 64, 4_096];
 
-fn measured(slots: u64) -> Vec<Line> {
+fn measured(slots: u64) -> (Field, Vec<Line>) {
     let mut field = Field::filled(slots);
     field.check_bytes();
     field.check_searches(&[everything(&field)]);
@@ -37,7 +37,7 @@ fn measured(slots: u64) -> Vec<Line> {
         "S = {slots}: {} lifts retained; chips and state of (a) are the store's, byte for byte.",
         field.retained()
     );
-    vec![
+    let lines = vec![
         append,
         searches(&mut field, report::RECENT_DAY, &recent),
         searches(&mut field, report::ANY_DAY, &any),
@@ -45,7 +45,8 @@ fn measured(slots: u64) -> Vec<Line> {
         searches(&mut field, report::ABSENT, &absent),
         tallies(&mut field, report::TALLY_DAY, &any),
         tallies(&mut field, report::TALLY_ALL, &whole[..1]),
-    ]
+    ];
+    (field, lines)
 }
 
 /// The stack of each call on a filled store: the deepest of many.
@@ -77,13 +78,15 @@ fn main() {
     let seen = agree::check();
     println!("Store and (a) give the same numbers, bytes and rows on damaged chips, odd states and odd arguments;");
     println!("answers by number, 0 first: {seen:?}.");
-    let lines: Vec<Line> = SIZES.into_iter().flat_map(measured).collect();
+    let [(mut small, first), (_, second), (mut large, third)] = SIZES.map(measured);
+    let lines: Vec<Line> = first.into_iter().chain(second).chain(third).collect();
     println!("All contenders find the same rows and counts.\n");
-    println!("Nanoseconds of processor time a call: the median round (the smallest to the largest). Lifts: found or counted by a call, on average.\n");
+    println!("Nanoseconds of processor time a call: the median round (the smallest to the largest).");
+    println!("Lifts: found or counted by a call, on average.\n");
     report::table(&lines);
     let depths = depths();
     println!();
     report::stacks(&depths);
     println!();
-    report::targets(&lines, &depths, &symbols);
+    report::targets(&lines, append_ratio(&mut small, &mut large), &depths, &symbols);
 }

@@ -79,6 +79,19 @@ pub fn appends(field: &mut Field, call: &'static str) -> Line {
     Line { slots: field.slots, call, found: 1.0, figures }
 }
 
+/// The store's appends at two sizes, in turns: the larger one's time over the smaller one's. The other contenders stay behind.
+pub fn append_ratio(small: &mut Field, large: &mut Field) -> f64 {
+    let mut rounds = [small, large].map(|field| (field, Vec::new()));
+    for _ in 0..APPEND_ROUNDS {
+        for (field, ns) in &mut rounds {
+            let lifts = field.next_lifts(APPENDS_A_ROUND);
+            ns.push(ns_per_call(lifts.len(), || field.proved.append_all(&lifts)));
+        }
+    }
+    let [small, large] = rounds.map(|(_, ns)| Figure::of(ns).expect("some rounds").median);
+    large / small
+}
+
 pub fn searches(field: &mut Field, call: &'static str, windows: &[Window]) -> Line {
     let found = field.check_searches(windows);
     let figures = repeated(field, windows, |contender, rows| contender.search_all(windows, rows));

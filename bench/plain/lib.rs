@@ -1,4 +1,4 @@
-//! The rules of document 01 changed in place, without proofs: the same chips and bytes, the state a struct that the calls change.
+//! The rules of document 01 in place and without proofs: the same chips and bytes, the state a struct that the calls change.
 #![no_std]
 #![forbid(unsafe_code)]
 
