@@ -82,7 +82,7 @@ fn main() {
     let lines: Vec<Line> = first.into_iter().chain(second).chain(third).collect();
     println!("All contenders find the same rows and counts.\n");
     println!("Nanoseconds of processor time a call: the median round (the smallest to the largest).");
-    println!("Lifts: found or counted by a call, on average.\n");
+    println!("Lifts: found or counted by a call, on average. Ratios: the median of the rounds' ratios.\n");
     report::table(&lines);
     let depths = depths();
     println!();

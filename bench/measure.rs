@@ -14,35 +14,27 @@ const ROUND_LEAST: f64 = 2e6;
 const APPEND_ROUNDS: usize = 15;
 const APPENDS_A_ROUND: usize = 20_000;
 
-/// Nanoseconds a call: the median round, the smallest and the largest.
-#[derive(Clone, Copy)]
-pub struct Figure {
-    pub median: f64,
-    pub least: f64,
-    pub most: f64,
+/// The nanoseconds a call of one contender, round by round; none where it was not to be had.
+pub type Rounds = Vec<f64>;
+
+/// The smallest, the median and the largest.
+pub fn spread(mut values: Vec<f64>) -> Option<[f64; 3]> {
+    values.sort_by(f64::total_cmp);
+    Some([*values.first()?, values[values.len() / 2], *values.last()?])
 }
 
-impl Figure {
-    fn of(mut rounds: Vec<f64>) -> Option<Figure> {
-        rounds.sort_by(f64::total_cmp);
-        let least = *rounds.first()?;
-        Some(Figure { median: rounds[rounds.len() / 2], least, most: rounds[rounds.len() - 1] })
-    }
+/// The median of the rounds' ratios: what slows the machine for a while slows both sides of a round.
+pub fn ratio(above: &Rounds, below: &Rounds) -> Option<f64> {
+    spread(above.iter().zip(below).map(|(a, b)| a / b).collect()).map(|[_, median, _]| median)
 }
 
-/// The figures of one kind of call at one S, in the contenders' order.
+/// One kind of call at one S, the contenders in their order.
 pub struct Line {
     pub slots: u64,
     pub call: &'static str,
     /// Lifts found or counted by a call, on average.
     pub found: f64,
-    pub figures: [Option<Figure>; 4],
-}
-
-impl Line {
-    pub fn median(&self, contender: usize) -> Option<f64> {
-        self.figures[contender].map(|figure| figure.median)
-    }
+    pub rounds: [Rounds; 4],
 }
 
 fn ns_per_call(calls: usize, run: impl FnOnce()) -> f64 {
@@ -51,9 +43,9 @@ fn ns_per_call(calls: usize, run: impl FnOnce()) -> f64 {
     (clock::nanoseconds() - start) as f64 / calls as f64
 }
 
-/// Rounds while they are wanted; `round` hands back one figure for each contender, the first to start given.
-fn rounds(wanted: impl Fn(usize) -> bool, mut round: impl FnMut(usize) -> [Option<f64>; 4]) -> [Option<Figure>; 4] {
-    let mut all: [Vec<f64>; 4] = Default::default();
+/// Rounds while they are wanted; `round` hands back a time for each contender, the first to start given.
+fn rounds(wanted: impl Fn(usize) -> bool, mut round: impl FnMut(usize) -> [Option<f64>; 4]) -> [Rounds; 4] {
+    let mut all: [Rounds; 4] = Default::default();
     let mut n = 0;
     while wanted(n) {
         for (rounds, ns) in all.iter_mut().zip(round(n % 4)) {
@@ -61,12 +53,12 @@ fn rounds(wanted: impl Fn(usize) -> bool, mut round: impl FnMut(usize) -> [Optio
         }
         n += 1;
     }
-    all.map(Figure::of)
+    all
 }
 
 /// Appends of the next lifts to the filled contenders: every round drops some segments.
 pub fn appends(field: &mut Field, call: &'static str) -> Line {
-    let figures = rounds(
+    let rounds = rounds(
         |n| n < APPEND_ROUNDS,
         |first| {
             let lifts: Vec<Lift> = field.next_lifts(APPENDS_A_ROUND);
@@ -76,32 +68,31 @@ pub fn appends(field: &mut Field, call: &'static str) -> Line {
         },
     );
     field.check_bytes();
-    Line { slots: field.slots, call, found: 1.0, figures }
+    Line { slots: field.slots, call, found: 1.0, rounds }
 }
 
 /// The store's appends at two sizes, in turns: the larger one's time over the smaller one's. The other contenders stay behind.
 pub fn append_ratio(small: &mut Field, large: &mut Field) -> f64 {
-    let mut rounds = [small, large].map(|field| (field, Vec::new()));
+    let mut sizes = [small, large].map(|field| (field, Rounds::new()));
     for _ in 0..APPEND_ROUNDS {
-        for (field, ns) in &mut rounds {
+        for (field, rounds) in &mut sizes {
             let lifts = field.next_lifts(APPENDS_A_ROUND);
-            ns.push(ns_per_call(lifts.len(), || field.proved.append_all(&lifts)));
+            rounds.push(ns_per_call(lifts.len(), || field.proved.append_all(&lifts)));
         }
     }
-    let [small, large] = rounds.map(|(_, ns)| Figure::of(ns).expect("some rounds").median);
-    large / small
+    ratio(&sizes[1].1, &sizes[0].1).expect("some rounds")
 }
 
 pub fn searches(field: &mut Field, call: &'static str, windows: &[Window]) -> Line {
     let found = field.check_searches(windows);
-    let figures = repeated(field, windows, |contender, rows| contender.search_all(windows, rows));
-    Line { slots: field.slots, call, found: found as f64 / windows.len() as f64, figures }
+    let rounds = repeated(field, windows, |contender, rows| contender.search_all(windows, rows));
+    Line { slots: field.slots, call, found: found as f64 / windows.len() as f64, rounds }
 }
 
 pub fn tallies(field: &mut Field, call: &'static str, windows: &[Window]) -> Line {
     let found = field.check_tallies(windows);
-    let figures = repeated(field, windows, |contender, _| contender.tally_all(windows));
-    Line { slots: field.slots, call, found: found as f64 / windows.len() as f64, figures }
+    let rounds = repeated(field, windows, |contender, _| contender.tally_all(windows));
+    Line { slots: field.slots, call, found: found as f64 / windows.len() as f64, rounds }
 }
 
 fn one_round(
@@ -117,7 +108,7 @@ fn one_round(
     ns
 }
 
-fn repeated(field: &mut Field, windows: &[Window], run: impl Fn(&mut dyn Contender, &mut [u8])) -> [Option<Figure>; 4] {
+fn repeated(field: &mut Field, windows: &[Window], run: impl Fn(&mut dyn Contender, &mut [u8])) -> [Rounds; 4] {
     let mut rows = std::mem::take(&mut field.rows);
     let mut repeats = [1; 4];
     one_round(field, 0, |contender, i| {
@@ -127,11 +118,11 @@ fn repeated(field: &mut Field, windows: &[Window], run: impl Fn(&mut dyn Contend
     });
     let start = Instant::now();
     let wanted = |n| n < ROUNDS_LEAST || (n < ROUNDS_MOST && start.elapsed() < TIME_FOR_ROUNDS);
-    let figures = rounds(wanted, |first| {
+    let rounds = rounds(wanted, |first| {
         one_round(field, first, |contender, i| {
             ns_per_call(windows.len() * repeats[i], || (0..repeats[i]).for_each(|_| run(contender, &mut rows)))
         })
     });
     field.rows = rows;
-    figures
+    rounds
 }

@@ -1,6 +1,6 @@
 //! The tables, as Markdown, and the targets with what was measured.
 use crate::field::NAMES;
-use crate::measure::{Figure, Line};
+use crate::measure::{ratio, spread, Line, Rounds};
 
 pub const APPEND: &str = "append";
 pub const RECENT_DAY: &str = "search, a day of the last 30";
@@ -25,16 +25,15 @@ fn grouped(number: f64) -> String {
     text
 }
 
-fn cell(figure: Option<Figure>) -> String {
-    figure.map_or("-".into(), |f| format!("{} ({} to {})", grouped(f.median), grouped(f.least), grouped(f.most)))
-}
-
-fn ratio(line: &Line, above: usize, below: usize) -> Option<f64> {
-    Some(line.median(above)? / line.median(below)?)
+fn cell(rounds: &Rounds) -> String {
+    spread(rounds.clone()).map_or("-".into(), |values| {
+        let [least, median, most] = values.map(grouped);
+        format!("{median} ({least} to {most})")
+    })
 }
 
 fn ratio_cell(line: &Line, above: usize, below: usize) -> String {
-    ratio(line, above, below).map_or("-".into(), |r| format!("{r:.2}"))
+    ratio(&line.rounds[above], &line.rounds[below]).map_or("-".into(), |r| format!("{r:.2}"))
 }
 
 pub fn table(lines: &[Line]) {
@@ -42,7 +41,7 @@ pub fn table(lines: &[Line]) {
     println!("| S | call | lifts | {names} | store/(a) | (b)/store | (c)/store |");
     println!("|---|---|---|---|---|---|---|---|---|---|");
     for line in lines {
-        let cells = line.figures.map(cell).join(" | ");
+        let cells = line.rounds.each_ref().map(cell).join(" | ");
         let ratios = [(0, 1), (2, 0), (3, 0)].map(|(above, below)| ratio_cell(line, above, below));
         let found = grouped(line.found);
         println!("| {} | {} | {found} | {cells} | {} |", line.slots, line.call, ratios.join(" | "));
@@ -80,7 +79,7 @@ pub fn targets(lines: &[Line], append_ratio: f64, depths: &[(&str, usize)], symb
 
 fn time_targets(lines: &[Line], append_ratio: f64) {
     for line in lines.iter().filter(|line| !line.call.starts_with("tally")) {
-        let ratio = ratio(line, 0, 1).expect("both are always measured");
+        let ratio = ratio(&line.rounds[0], &line.rounds[1]).expect("both are always measured");
         let what = format!("{}, S = {}: at most 1.5 times (a)", line.call, line.slots);
         target(&what, format!("{ratio:.2} times"), ratio <= 1.5);
     }
@@ -89,7 +88,8 @@ fn time_targets(lines: &[Line], append_ratio: f64) {
     for call in [RECENT_DAY, ANY_DAY] {
         for (other, name) in [(2, "(b)"), (3, "(c)")] {
             let what = format!("{call}, S = 4096: ten times faster than {name}");
-            match ratio(find(lines, 4_096, call), other, 0) {
+            let rounds = &find(lines, 4_096, call).rounds;
+            match ratio(&rounds[other], &rounds[0]) {
                 Some(faster) => target(&what, format!("{faster:.1} times"), faster >= 10.0),
                 None => println!("| {what} | not measured | skipped |"),
             }
