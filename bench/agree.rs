@@ -1,0 +1,114 @@
+//! Store and in-place implementation side by side on damaged chips, odd states and odd arguments.
+use crate::gym::{Gym, Random};
+use crate::in_place::InPlace;
+use crate::lift::{Contender, Lift, RECORD_BYTES};
+use crate::proved::Proved;
+use plain::{plate_of, Ground, State, Window, LOAD_MAX, LOAD_MIN, SLOT_BYTES, STATE_BYTES, TIME_MAX};
+
+const TRIALS: usize = 4_000;
+
+fn number<T>(answer: Result<T, Ground>) -> u8 {
+    answer.map_or_else(|ground| ground as u8, |_| 0)
+}
+
+/// How often each number was answered, over all trials; panics where the two differ.
+pub fn check() -> [usize; 13] {
+    let mut random = Random(7);
+    let mut seen = [0; 13];
+    for slots in [2, 3, 5] {
+        let mut lifts = Gym::new(slots).lifts(slots as usize * 400);
+        let mut store = Proved::new(slots);
+        lifts.truncate(slots as usize * 330 + random.within(0, 300) as usize);
+        store.append_all(&lifts);
+        for _ in 0..TRIALS {
+            let mut poked = store.clone();
+            poke(&mut random, &mut poked);
+            trial(&mut random, &poked, lifts[lifts.len() - 1].time, &mut seen);
+        }
+    }
+    for load in [LOAD_MIN - 1, LOAD_MIN, -500, 250, 251, 9_750, 9_751, LOAD_MAX, LOAD_MAX + 1] {
+        let mut answer = [0; 8];
+        assert_eq!(Proved::plate(load, &mut answer), number(plate_of(load)), "plate of {load}");
+        assert_eq!(u64::from_le_bytes(answer) as usize, plate_of(load).unwrap_or(0));
+    }
+    seen
+}
+
+/// Up to three bytes are changed, mostly in headers, trees and the state; now and then the serials, S or NOR's length.
+fn poke(random: &mut Random, store: &mut Proved) {
+    match random.within(0, 31) {
+        0 => store.slots += 1,
+        1 => store.nor.truncate(6_000),
+        2 => {
+            let last = random.within(999_999_996, 999_999_999) as u32;
+            store.state[..4].copy_from_slice(&last.to_le_bytes());
+            store.state[4..8].copy_from_slice(&last.to_le_bytes());
+        }
+        _ => {}
+    }
+    let slots = store.nand.len() / SLOT_BYTES;
+    for _ in 0..random.within(0, 3) {
+        let value = [0, 1, 127, 255, random.next() as u8][random.within(0, 4) as usize];
+        let slot = random.within(0, slots as i64 - 1) as usize * SLOT_BYTES;
+        match random.within(0, 5) {
+            0 => store.state[random.within(0, STATE_BYTES as i64 - 1) as usize] = value,
+            1 => store.state[random.within(0, 66) as usize] = value,
+            2 => store.nor[random.within(0, 5_300) as usize] = value,
+            3 => store.nand[slot + 31 * 512 + random.within(0, 79) as usize] = value,
+            4 => store.nand[slot + random.within(20 * 512, 31 * 512 - 1) as usize] = value,
+            _ => store.nand[slot + random.within(0, SLOT_BYTES as i64 - 1) as usize] = value,
+        }
+    }
+}
+
+fn trial(random: &mut Random, store: &Proved, last: u64, seen: &mut [usize; 13]) {
+    let state = State::from_bytes(&store.state);
+    let plain = InPlace { state, nand: store.nand.clone(), nor: store.nor.clone(), slots: store.slots };
+    let time = [last + 1, last + 1, last + 5, last, TIME_MAX, TIME_MAX + 1][random.within(0, 5) as usize];
+    let load = [500, 740, -20_000, LOAD_MAX, LOAD_MAX + 1, 2_500][random.within(0, 5) as usize];
+    let lift = Lift { time, load, note: [3; 20] };
+    let [mut one, mut two] = [store.clone(), store.clone()];
+    let [mut one_plain, mut two_plain] = [plain.clone(), plain.clone()];
+    // Two appends in a row, then a close and a drop.
+    let again = Lift { time: time + 1, ..lift };
+    let calls = [
+        (one.put(&lift), number(one_plain.put(&lift))),
+        (one.put(&again), number(one_plain.put(&again))),
+        (two.close(), number(two_plain.state.close(&mut two_plain.nand, &mut two_plain.nor, store.slots))),
+        (two.drop_oldest(), number(two_plain.state.drop_oldest(&mut two_plain.nand, &two_plain.nor, store.slots))),
+    ];
+    for (proved, plain) in calls {
+        assert_eq!(proved, plain, "numbers differ");
+        seen[usize::from(proved)] += 1;
+    }
+    same_bytes(&one, &one_plain);
+    same_bytes(&two, &two_plain);
+    same_answers(random, store, &plain, last, seen);
+}
+
+fn same_bytes(store: &Proved, plain: &InPlace) {
+    assert!(store.state == plain.state.to_bytes(), "states differ");
+    assert!(store.nand == plain.nand && store.nor == plain.nor, "chips differ");
+}
+
+fn same_answers(random: &mut Random, store: &Proved, plain: &InPlace, last: u64, seen: &mut [usize; 13]) {
+    let mut time = || [0, last - last / 3, last, TIME_MAX][random.within(0, 3) as usize];
+    let (t1, t2) = (time(), time());
+    let mut load = || [LOAD_MIN, 0, 2_480, 2_500, LOAD_MAX][random.within(0, 4) as usize];
+    let window = Window { t1, t2, k1: load(), k2: load() };
+    let room = random.within(0, 2_000) as usize * RECORD_BYTES + 5;
+    let (mut rows, mut plain_rows, mut answer) = (vec![9; room], vec![9; room], [0; 8]);
+    let proved = store.find(&window, &mut rows, &mut answer);
+    let found = plain.state.search(&plain.nand, &plain.nor, plain.slots, &window, &mut plain_rows);
+    assert_eq!(proved, number(found), "numbers differ");
+    assert!(rows == plain_rows, "rows differ");
+    assert_eq!(u64::from_le_bytes(answer) as usize, found.unwrap_or(0));
+    let mut answer = [0; 168];
+    let tallied = store.by_plate(t1, t2, &mut answer);
+    let counts = plain.state.tally(&plain.nand, &plain.nor, plain.slots, t1, t2);
+    assert_eq!(tallied, number(counts), "numbers differ");
+    let counts: Vec<u8> = counts.unwrap_or([0; 21]).iter().flat_map(|n| n.to_le_bytes()).collect();
+    assert!(answer[..] == counts, "tallies differ");
+    seen[usize::from(proved)] += 1;
+    seen[usize::from(tallied)] += 1;
+}

@@ -1,0 +1,124 @@
+//! The four contenders at one S, filled with the same lifts, and the check that they answer alike.
+use crate::gym::Gym;
+use crate::in_place::InPlace;
+use crate::lift::{Contender, Lift, RECORD_BYTES};
+use crate::proved::Proved;
+use crate::scan::Scan;
+use plain::Window;
+
+pub const NAMES: [&str; 4] = ["store", "(a) in place", "(b) SQLite", "(c) array"];
+
+#[cfg(sqlite)]
+fn sqlite() -> Option<Box<dyn Contender>> {
+    Some(Box::new(crate::sqlite::Sqlite::new()))
+}
+
+#[cfg(not(sqlite))]
+fn sqlite() -> Option<Box<dyn Contender>> {
+    None
+}
+
+pub struct Field {
+    pub slots: u64,
+    pub proved: Proved,
+    in_place: InPlace,
+    sqlite: Option<Box<dyn Contender>>,
+    scan: Scan,
+    gym: Gym,
+    /// The result area: a row for each retained lift.
+    pub rows: Vec<u8>,
+    /// First and last time retained.
+    pub span: (u64, u64),
+}
+
+impl Field {
+    /// Enough lifts to fill the store and to force drops.
+    pub fn filled(slots: u64) -> Field {
+        let mut field = Field {
+            slots,
+            proved: Proved::new(slots),
+            in_place: InPlace::new(slots),
+            sqlite: sqlite(),
+            scan: Scan::default(),
+            gym: Gym::new(20_260_701),
+            rows: Vec::new(),
+            span: (0, 0),
+        };
+        let lifts = field.next_lifts(slots as usize * 330 + 2_000);
+        field.proved.append_all(&lifts);
+        field.in_place.append_all(&lifts);
+        let live = field.proved.live();
+        let retained = &lifts[lifts.partition_point(|lift| lift.time < live)..];
+        for contender in field.contenders().into_iter().skip(2).flatten() {
+            contender.append_all(retained);
+        }
+        field.settle(&lifts);
+        field
+    }
+
+    pub fn next_lifts(&mut self, at_least: usize) -> Vec<Lift> {
+        self.gym.lifts(at_least)
+    }
+
+    /// The contenders in the order of their names; SQLite where it is to be had.
+    pub fn contenders(&mut self) -> [Option<&mut dyn Contender>; 4] {
+        let sqlite: Option<&mut dyn Contender> = match &mut self.sqlite {
+            Some(sqlite) => Some(sqlite.as_mut()),
+            None => None,
+        };
+        [Some(&mut self.proved), Some(&mut self.in_place), sqlite, Some(&mut self.scan)]
+    }
+
+    /// After appends: what the store dropped is dropped by the others, and the area has room for all.
+    pub fn settle(&mut self, appended: &[Lift]) {
+        let live = self.proved.live();
+        for contender in self.contenders().into_iter().flatten() {
+            contender.forget_before(live);
+        }
+        self.span = (live, appended.last().expect("some lifts").time);
+        let retained: u64 = self.proved.tally(self.span.0, self.span.1).iter().sum();
+        self.rows = vec![0; retained as usize * RECORD_BYTES];
+    }
+
+    pub fn retained(&self) -> usize {
+        self.rows.len() / RECORD_BYTES
+    }
+
+    /// Chips and state of (a) are byte for byte the store's.
+    pub fn check_bytes(&self) {
+        assert!(self.in_place.state.to_bytes() == self.proved.state, "the states differ");
+        assert!(self.in_place.nand == self.proved.nand, "NAND differs");
+        assert!(self.in_place.nor == self.proved.nor, "NOR differs");
+    }
+
+    /// All contenders find the same rows; how many, over all windows.
+    pub fn check_searches(&mut self, windows: &[Window]) -> usize {
+        let mut known = std::mem::take(&mut self.rows);
+        let mut rows = vec![0; known.len()];
+        let mut total = 0;
+        for window in windows {
+            let mut others = self.contenders().into_iter().flatten();
+            let found = others.next().expect("the store").search(window, &mut known);
+            let bytes = found * RECORD_BYTES;
+            for contender in others {
+                let alike = contender.search(window, &mut rows) == found && rows[..bytes] == known[..bytes];
+                assert!(alike, "answers differ at {window:?}");
+            }
+            total += found;
+        }
+        self.rows = known;
+        total
+    }
+
+    /// All contenders count alike; how many lifts, over all windows.
+    pub fn check_tallies(&mut self, windows: &[Window]) -> usize {
+        let mut total = 0;
+        for w in windows {
+            let counts = self.contenders().into_iter().flatten().map(|c| c.tally(w.t1, w.t2));
+            let counts: Vec<_> = counts.collect();
+            assert!(counts.windows(2).all(|pair| pair[0] == pair[1]), "tallies differ at {w:?}");
+            total += counts[0].iter().sum::<u64>() as usize;
+        }
+        total
+    }
+}

@@ -1,0 +1,92 @@
+//! The store against an in-place implementation, SQLite and a plain array, on the same lifts and questions.
+mod agree;
+mod clock;
+mod field;
+mod gym;
+mod in_place;
+mod lift;
+mod measure;
+mod proved;
+mod questions;
+mod report;
+mod scan;
+#[cfg(sqlite)]
+mod sqlite;
+mod stack;
+
+use field::Field;
+use measure::{append_ratio, appends, searches, tallies, Line};
+use proved::Proved;
+use questions::{everything, Questions};
+
+const SIZES: [u64; 3] = [2, 64, 4_096];
+
+fn measured(slots: u64) -> (Field, Vec<Line>) {
+    let mut field = Field::filled(slots);
+    field.check_bytes();
+    field.check_searches(&[everything(&field)]);
+    let append = appends(&mut field, report::APPEND);
+    let mut asked = Questions::new(&field);
+    // Fewer questions where each takes long.
+    let (days, wide) = if slots > 1_000 { (64, 4) } else { (64, 16) };
+    let recent = asked.days(days, 30);
+    let any = asked.days(days, u64::MAX);
+    let whole = asked.whole_log(wide);
+    let absent = asked.absent(wide);
+    println!(
+        "S = {slots}: {} lifts retained; chips and state of (a) are the store's, byte for byte.",
+        field.retained()
+    );
+    let lines = vec![
+        append,
+        searches(&mut field, report::RECENT_DAY, &recent),
+        searches(&mut field, report::ANY_DAY, &any),
+        searches(&mut field, report::WHOLE_LOG, &whole),
+        searches(&mut field, report::ABSENT, &absent),
+        tallies(&mut field, report::TALLY_DAY, &any),
+        tallies(&mut field, report::TALLY_ALL, &whole[..1]),
+    ];
+    (field, lines)
+}
+
+/// The stack of each call on a filled store: the deepest of many.
+fn depths() -> Vec<(&'static str, usize)> {
+    let mut field = Field::filled(2);
+    let window = everything(&field);
+    let lifts = field.next_lifts(700);
+    let mut rows = vec![0; field.rows.len()];
+    let mut store = field.proved.clone();
+    let append = stack::depth(|| assert!(lifts.iter().all(|lift| store.put(lift) == 0)));
+    let (mut answer, mut counts) = ([0; 8], [0; 168]);
+    let old: &Proved = &field.proved;
+    let mut closing = old.clone();
+    let mut dropping = old.clone();
+    vec![
+        ("format", stack::depth(|| assert_eq!(store.format(), 0))),
+        ("append, closing and dropping among 700", append),
+        ("close", stack::depth(|| assert_eq!(closing.close(), 0))),
+        ("drop", stack::depth(|| assert_eq!(dropping.drop_oldest(), 0))),
+        ("search", stack::depth(|| assert_eq!(old.find(&window, &mut rows, &mut answer), 0))),
+        ("tally", stack::depth(|| assert_eq!(old.by_plate(window.t1, window.t2, &mut counts), 0))),
+        ("plate", stack::depth(|| assert_eq!(Proved::plate(2_500, &mut answer), 0))),
+    ]
+}
+
+/// The first argument names the archive's undefined symbols.
+fn main() {
+    let symbols = std::env::args().nth(1).unwrap_or_default();
+    let seen = agree::check();
+    println!("Store and (a) give the same numbers, bytes and rows on damaged chips, odd states and odd arguments;");
+    println!("answers by number, 0 first: {seen:?}.");
+    let [(mut small, first), (_, second), (mut large, third)] = SIZES.map(measured);
+    let lines: Vec<Line> = first.into_iter().chain(second).chain(third).collect();
+    println!("All contenders find the same rows and counts.\n");
+    println!("Nanoseconds of processor time a call: the median round (the smallest to the largest).");
+    println!("Lifts: found or counted by a call, on average. Ratios: the median of the rounds' ratios.\n");
+    report::table(&lines);
+    let depths = depths();
+    println!();
+    report::stacks(&depths);
+    println!();
+    report::targets(&lines, append_ratio(&mut small, &mut large), &depths, &symbols);
+}

@@ -1,0 +1,128 @@
+//! Timed rounds: in each, every contender makes the same calls, one after the other.
+use crate::clock;
+use crate::field::Field;
+use crate::lift::{Contender, Lift};
+use plain::Window;
+use std::time::{Duration, Instant};
+
+const ROUNDS_LEAST: usize = 7;
+const ROUNDS_MOST: usize = 31;
+const TIME_FOR_ROUNDS: Duration = Duration::from_millis(2_500);
+/// A contender repeats its calls until a round is long enough for the clock, in nanoseconds.
+const ROUND_LEAST: f64 = 2e6;
+/// Appends change the log, so their number is fixed: every run asks the same questions of the same lifts.
+const APPEND_ROUNDS: usize = 15;
+const APPENDS_A_ROUND: usize = 20_000;
+
+/// The nanoseconds a call of one contender, round by round; none where it was not to be had.
+pub type Rounds = Vec<f64>;
+
+/// The smallest, the median and the largest.
+pub fn spread(mut values: Vec<f64>) -> Option<[f64; 3]> {
+    values.sort_by(f64::total_cmp);
+    Some([*values.first()?, values[values.len() / 2], *values.last()?])
+}
+
+/// The median of the rounds' ratios: what slows the machine for a while slows both sides of a round.
+pub fn ratio(above: &Rounds, below: &Rounds) -> Option<f64> {
+    spread(above.iter().zip(below).map(|(a, b)| a / b).collect()).map(|[_, median, _]| median)
+}
+
+/// One kind of call at one S, the contenders in their order.
+pub struct Line {
+    pub slots: u64,
+    pub call: &'static str,
+    /// Lifts found or counted by a call, on average.
+    pub found: f64,
+    pub rounds: [Rounds; 4],
+}
+
+fn ns_per_call(calls: usize, run: impl FnOnce()) -> f64 {
+    let start = clock::nanoseconds();
+    run();
+    (clock::nanoseconds() - start) as f64 / calls as f64
+}
+
+/// Rounds while they are wanted; `round` hands back a time for each contender, the first to start given.
+fn rounds(wanted: impl Fn(usize) -> bool, mut round: impl FnMut(usize) -> [Option<f64>; 4]) -> [Rounds; 4] {
+    let mut all: [Rounds; 4] = Default::default();
+    let mut n = 0;
+    while wanted(n) {
+        for (rounds, ns) in all.iter_mut().zip(round(n % 4)) {
+            rounds.extend(ns);
+        }
+        n += 1;
+    }
+    all
+}
+
+/// Appends of the next lifts to the filled contenders: every round drops some segments.
+pub fn appends(field: &mut Field, call: &'static str) -> Line {
+    let rounds = rounds(
+        |n| n < APPEND_ROUNDS,
+        |first| {
+            let lifts: Vec<Lift> = field.next_lifts(APPENDS_A_ROUND);
+            let ns = one_round(field, first, |contender, _| ns_per_call(lifts.len(), || contender.append_all(&lifts)));
+            field.settle(&lifts);
+            ns
+        },
+    );
+    field.check_bytes();
+    Line { slots: field.slots, call, found: 1.0, rounds }
+}
+
+/// The store's appends at two sizes, in turns: the larger one's time over the smaller one's. The other contenders stay behind.
+pub fn append_ratio(small: &mut Field, large: &mut Field) -> f64 {
+    let mut sizes = [small, large].map(|field| (field, Rounds::new()));
+    for _ in 0..APPEND_ROUNDS {
+        for (field, rounds) in &mut sizes {
+            let lifts = field.next_lifts(APPENDS_A_ROUND);
+            rounds.push(ns_per_call(lifts.len(), || field.proved.append_all(&lifts)));
+        }
+    }
+    ratio(&sizes[1].1, &sizes[0].1).expect("some rounds")
+}
+
+pub fn searches(field: &mut Field, call: &'static str, windows: &[Window]) -> Line {
+    let found = field.check_searches(windows);
+    let rounds = repeated(field, windows, |contender, rows| contender.search_all(windows, rows));
+    Line { slots: field.slots, call, found: found as f64 / windows.len() as f64, rounds }
+}
+
+pub fn tallies(field: &mut Field, call: &'static str, windows: &[Window]) -> Line {
+    let found = field.check_tallies(windows);
+    let rounds = repeated(field, windows, |contender, _| contender.tally_all(windows));
+    Line { slots: field.slots, call, found: found as f64 / windows.len() as f64, rounds }
+}
+
+fn one_round(
+    field: &mut Field,
+    first: usize,
+    mut time: impl FnMut(&mut dyn Contender, usize) -> f64,
+) -> [Option<f64>; 4] {
+    let mut ns = [None; 4];
+    let mut contenders = field.contenders();
+    for i in (0..4).map(|i| (first + i) % 4) {
+        ns[i] = contenders[i].as_mut().map(|contender| time(&mut **contender, i));
+    }
+    ns
+}
+
+fn repeated(field: &mut Field, windows: &[Window], run: impl Fn(&mut dyn Contender, &mut [u8])) -> [Rounds; 4] {
+    let mut rows = std::mem::take(&mut field.rows);
+    let mut repeats = [1; 4];
+    one_round(field, 0, |contender, i| {
+        let once = ns_per_call(1, || run(contender, &mut rows)).max(1.0);
+        repeats[i] = (ROUND_LEAST / once) as usize + 1;
+        once
+    });
+    let start = Instant::now();
+    let wanted = |n| n < ROUNDS_LEAST || (n < ROUNDS_MOST && start.elapsed() < TIME_FOR_ROUNDS);
+    let rounds = rounds(wanted, |first| {
+        one_round(field, first, |contender, i| {
+            ns_per_call(windows.len() * repeats[i], || (0..repeats[i]).for_each(|_| run(contender, &mut rows)))
+        })
+    });
+    field.rows = rows;
+    rounds
+}

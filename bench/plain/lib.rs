@@ -1,0 +1,62 @@
+//! The rules of document 01 in place and without proofs: the same chips and bytes, the state a struct that the calls change.
+#![no_std]
+#![forbid(unsafe_code)]
+
+mod append;
+mod bloom;
+mod bytes;
+mod close;
+mod header;
+mod matches;
+mod query;
+mod split;
+mod state;
+mod tree;
+
+pub use query::{plate_of, Window};
+pub use state::{Pointer, State, STATE_BYTES};
+
+/// The twelve grounds, numbered in checking order.
+#[repr(u8)]
+#[derive(Clone, Copy, Debug, PartialEq, Eq)]
+pub enum Ground {
+    NandSize = 1,
+    NorSize,
+    StateBound,
+    TimeLimit,
+    LoadLimit,
+    BackwardRange,
+    TimeBelowNext,
+    SerialsUsedUp,
+    NothingThere,
+    Damage,
+    PageNotErased,
+    AreaTooSmall,
+}
+
+pub const TIME_MAX: u64 = 999_999_999_999_999;
+pub const LOAD_MIN: i32 = -50_000;
+pub const LOAD_MAX: i32 = 100_000;
+pub const PAGE_BYTES: usize = 512;
+pub const SLOT_BYTES: usize = 16_384;
+pub const NOR_BYTES: usize = 6_144;
+pub const RECORD_BYTES: usize = 32;
+
+pub(crate) const LOAD_OFFSET: i32 = 50_001;
+pub(crate) const CODE_MAX: u32 = 150_001;
+pub(crate) const LIFTS_MAX: u16 = 320;
+pub(crate) const BUCKETS_MAX: u8 = 36;
+pub(crate) const LIFTS_PER_PAGE: usize = 16;
+pub(crate) const LIFTS_PER_SECTION: usize = 64;
+pub(crate) const TREE_PAGE: usize = 20;
+pub(crate) const BLOOM_PAGE: usize = 29;
+pub(crate) const HEADER_PAGE: usize = 31;
+
+pub(crate) fn load_ok(load: i32) -> bool {
+    (LOAD_MIN..=LOAD_MAX).contains(&load)
+}
+
+/// A load as it is stored.
+pub(crate) fn stored(load: i32) -> u32 {
+    (load + LOAD_OFFSET) as u32
+}

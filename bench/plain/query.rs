@@ -1,0 +1,158 @@
+//! Search, tally and plate lookup.
+use crate::bytes::{slot, u32_at};
+use crate::header::Header;
+use crate::matches::{Matches, Segment};
+use crate::state::{Pointer, State};
+use crate::{bloom, load_ok, stored, Ground, LOAD_MAX, LOAD_MIN, LOAD_OFFSET, RECORD_BYTES, TIME_MAX};
+
+/// Times from t1 to t2 and loads from k1 to k2.
+#[derive(Clone, Copy, Debug)]
+pub struct Window {
+    pub t1: u64,
+    pub t2: u64,
+    pub k1: i32,
+    pub k2: i32,
+}
+
+/// A window within its limits, its loads as stored.
+pub struct Asked {
+    pub t1: u64,
+    pub t2: u64,
+    pub k1: u32,
+    pub k2: u32,
+}
+
+/// What a search reads.
+pub struct Log<'a> {
+    pub state: &'a State,
+    pub nand: &'a [u8],
+    pub nor: &'a [u8],
+    pub slots: u64,
+}
+
+impl State {
+    /// Counts first, then writes the rows from the end backwards: no row before the answer is known.
+    pub fn search(
+        &self,
+        nand: &[u8],
+        nor: &[u8],
+        slots: u64,
+        window: &Window,
+        rows: &mut [u8],
+    ) -> Result<usize, Ground> {
+        self.check(nand, nor, slots)?;
+        let asked = window.check()?;
+        let log = Log { state: self, nand, nor, slots };
+        let mut total = 0;
+        log.visit(&asked, |_, matches| total += matches.len())?;
+        if rows.len() / RECORD_BYTES < total {
+            return Err(Ground::AreaTooSmall);
+        }
+        let mut end = total * RECORD_BYTES;
+        log.visit(&asked, |segment, matches| {
+            let start = end - matches.len() * RECORD_BYTES;
+            let rows = rows[start..end].chunks_exact_mut(RECORD_BYTES);
+            for (row, place) in rows.zip(matches) {
+                row.copy_from_slice(segment.record(place));
+            }
+            end = start;
+        })?;
+        Ok(total)
+    }
+
+    /// How many lifts of the time window belong to each plate.
+    pub fn tally(&self, nand: &[u8], nor: &[u8], slots: u64, t1: u64, t2: u64) -> Result<[u64; 21], Ground> {
+        self.check(nand, nor, slots)?;
+        let asked = Window { t1, t2, k1: LOAD_MIN, k2: LOAD_MAX }.check()?;
+        let log = Log { state: self, nand, nor, slots };
+        let mut counts = [0; 21];
+        log.visit(&asked, |segment, matches| {
+            for place in matches {
+                counts[plate_of_code(u32_at(segment.record(place), 8))] += 1;
+            }
+        })?;
+        Ok(counts)
+    }
+}
+
+impl Window {
+    /// Grounds 4, 5 and 6.
+    fn check(&self) -> Result<Asked, Ground> {
+        let Window { t1, t2, k1, k2 } = *self;
+        if t1 > TIME_MAX || t2 > TIME_MAX {
+            Err(Ground::TimeLimit)
+        } else if !load_ok(k1) || !load_ok(k2) {
+            Err(Ground::LoadLimit)
+        } else if t1 > t2 || k1 > k2 {
+            Err(Ground::BackwardRange)
+        } else {
+            Ok(Asked { t1, t2, k1: stored(k1), k2: stored(k2) })
+        }
+    }
+}
+
+impl<'a> Log<'a> {
+    /// Every segment that may hold a match, the newest first.
+    fn visit(&self, asked: &Asked, mut take: impl FnMut(&Segment<'a>, Matches)) -> Result<(), Ground> {
+        let state = self.state;
+        if state.count > 0 {
+            let segment = Segment::open(self);
+            take(&segment, segment.matches(asked)?);
+            if state.start <= asked.t1 {
+                return Ok(());
+            }
+        }
+        let (mut pointer, mut before) = self.newest_up_to(asked.t2)?;
+        while pointer.is_live(state.live) {
+            let number = usize::from(pointer.slot);
+            let header = Header::load(self.nand, number, self.slots, before)?;
+            if self.may_match(number, &header, asked) {
+                let segment = Segment::closed(self.nand, number, header.count, header.buckets);
+                take(&segment, segment.matches(asked)?);
+            }
+            if header.start <= asked.t1 {
+                break;
+            }
+            (pointer, before) = (header.next[0], header.serial);
+        }
+        Ok(())
+    }
+
+    /// By the skip pointers, level 4 down to 1, to the newest closed segment with start not above t2.
+    fn newest_up_to(&self, t2: u64) -> Result<(Pointer, u32), Ground> {
+        let (mut pointers, mut before) = (self.state.heads, self.state.open);
+        for level in (0..4).rev() {
+            while pointers[level].is_live(self.state.live) && pointers[level].time > t2 {
+                let number = usize::from(pointers[level].slot);
+                let header = Header::load(self.nand, number, self.slots, before)?;
+                (pointers, before) = (header.next, header.serial);
+            }
+        }
+        Ok((pointers[0], before))
+    }
+
+    fn may_match(&self, number: usize, header: &Header, asked: &Asked) -> bool {
+        let meets = header.high >= asked.k1 && header.low <= asked.k2;
+        meets && (asked.k1 < asked.k2 || bloom::may_hold(slot(self.nand, number), header.count, asked.k1))
+    }
+}
+
+fn plate_of_code(code: u32) -> usize {
+    const FIRST: u32 = (250 + LOAD_OFFSET) as u32;
+    const LAST: u32 = (9_750 + LOAD_OFFSET) as u32;
+    if code <= FIRST {
+        0
+    } else if code > LAST {
+        20
+    } else {
+        ((code + 249 - LOAD_OFFSET as u32) / 500) as usize
+    }
+}
+
+pub fn plate_of(load: i32) -> Result<usize, Ground> {
+    if load_ok(load) {
+        Ok(plate_of_code(stored(load)))
+    } else {
+        Err(Ground::LoadLimit)
+    }
+}

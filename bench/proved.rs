@@ -1,0 +1,219 @@
+//! The store over its C interface, `store_abi`.
+use crate::lift::{Contender, Lift};
+use plain::{Window, NOR_BYTES, SLOT_BYTES, STATE_BYTES};
+
+extern "C" {
+    fn store_format(
+        state: *mut u8,
+        state_len: usize,
+        nand: *mut u8,
+        nand_len: usize,
+        nor: *mut u8,
+        nor_len: usize,
+        slots: u64,
+    ) -> u8;
+    fn store_append(
+        state: *mut u8,
+        state_len: usize,
+        nand: *mut u8,
+        nand_len: usize,
+        nor: *mut u8,
+        nor_len: usize,
+        slots: u64,
+        time: u64,
+        load: i32,
+        note: *const u8,
+    ) -> u8;
+    fn store_close(
+        state: *mut u8,
+        state_len: usize,
+        nand: *mut u8,
+        nand_len: usize,
+        nor: *mut u8,
+        nor_len: usize,
+        slots: u64,
+    ) -> u8;
+    fn store_drop(
+        state: *mut u8,
+        state_len: usize,
+        nand: *mut u8,
+        nand_len: usize,
+        nor: *const u8,
+        nor_len: usize,
+        slots: u64,
+    ) -> u8;
+    fn store_search(
+        state: *const u8,
+        state_len: usize,
+        nand: *const u8,
+        nand_len: usize,
+        nor: *const u8,
+        nor_len: usize,
+        slots: u64,
+        t1: u64,
+        t2: u64,
+        k1: i32,
+        k2: i32,
+        rows: *mut u8,
+        rows_len: usize,
+        answer: *mut u8,
+        answer_len: usize,
+    ) -> u8;
+    fn store_tally(
+        state: *const u8,
+        state_len: usize,
+        nand: *const u8,
+        nand_len: usize,
+        nor: *const u8,
+        nor_len: usize,
+        slots: u64,
+        t1: u64,
+        t2: u64,
+        answer: *mut u8,
+        answer_len: usize,
+    ) -> u8;
+    fn store_plate(load: i32, answer: *mut u8, answer_len: usize) -> u8;
+}
+
+/// State and chips as the console holds them; each call hands back its number.
+#[derive(Clone)]
+pub struct Proved {
+    pub state: [u8; STATE_BYTES],
+    pub nand: Vec<u8>,
+    pub nor: Vec<u8>,
+    pub slots: u64,
+}
+
+// Every pointer below comes with the length of the area that it points to, and no two areas overlap.
+impl Proved {
+    pub fn new(slots: u64) -> Proved {
+        let nand = vec![0; slots as usize * SLOT_BYTES];
+        let mut store = Proved { state: [0; STATE_BYTES], nand, nor: vec![0; NOR_BYTES], slots };
+        assert_eq!(store.format(), 0, "the store refuses a format");
+        store
+    }
+
+    pub fn format(&mut self) -> u8 {
+        let Proved { state, nand, nor, slots } = self;
+        unsafe {
+            store_format(
+                state.as_mut_ptr(),
+                STATE_BYTES,
+                nand.as_mut_ptr(),
+                nand.len(),
+                nor.as_mut_ptr(),
+                nor.len(),
+                *slots,
+            )
+        }
+    }
+
+    pub fn put(&mut self, lift: &Lift) -> u8 {
+        let Proved { state, nand, nor, slots } = self;
+        unsafe {
+            store_append(
+                state.as_mut_ptr(),
+                STATE_BYTES,
+                nand.as_mut_ptr(),
+                nand.len(),
+                nor.as_mut_ptr(),
+                nor.len(),
+                *slots,
+                lift.time,
+                lift.load,
+                lift.note.as_ptr(),
+            )
+        }
+    }
+
+    pub fn close(&mut self) -> u8 {
+        let Proved { state, nand, nor, slots } = self;
+        unsafe {
+            store_close(
+                state.as_mut_ptr(),
+                STATE_BYTES,
+                nand.as_mut_ptr(),
+                nand.len(),
+                nor.as_mut_ptr(),
+                nor.len(),
+                *slots,
+            )
+        }
+    }
+
+    pub fn drop_oldest(&mut self) -> u8 {
+        let Proved { state, nand, nor, slots } = self;
+        unsafe {
+            store_drop(state.as_mut_ptr(), STATE_BYTES, nand.as_mut_ptr(), nand.len(), nor.as_ptr(), nor.len(), *slots)
+        }
+    }
+
+    pub fn find(&self, w: &Window, rows: &mut [u8], answer: &mut [u8; 8]) -> u8 {
+        let Proved { state, nand, nor, slots } = self;
+        unsafe {
+            store_search(
+                state.as_ptr(),
+                STATE_BYTES,
+                nand.as_ptr(),
+                nand.len(),
+                nor.as_ptr(),
+                nor.len(),
+                *slots,
+                w.t1,
+                w.t2,
+                w.k1,
+                w.k2,
+                rows.as_mut_ptr(),
+                rows.len(),
+                answer.as_mut_ptr(),
+                answer.len(),
+            )
+        }
+    }
+
+    pub fn by_plate(&self, t1: u64, t2: u64, answer: &mut [u8; 168]) -> u8 {
+        let Proved { state, nand, nor, slots } = self;
+        unsafe {
+            store_tally(
+                state.as_ptr(),
+                STATE_BYTES,
+                nand.as_ptr(),
+                nand.len(),
+                nor.as_ptr(),
+                nor.len(),
+                *slots,
+                t1,
+                t2,
+                answer.as_mut_ptr(),
+                answer.len(),
+            )
+        }
+    }
+
+    pub fn plate(load: i32, answer: &mut [u8; 8]) -> u8 {
+        unsafe { store_plate(load, answer.as_mut_ptr(), answer.len()) }
+    }
+
+    /// The oldest live time, as the state has it.
+    pub fn live(&self) -> u64 {
+        u64::from_le_bytes(self.state[19..27].try_into().unwrap())
+    }
+}
+
+impl Contender for Proved {
+    fn append(&mut self, lift: &Lift) {
+        assert_eq!(self.put(lift), 0, "the store refuses an append");
+    }
+
+    fn search(&mut self, window: &Window, rows: &mut [u8]) -> usize {
+        let mut answer = [0; 8];
+        assert_eq!(self.find(window, rows, &mut answer), 0, "the store refuses a search");
+        u64::from_le_bytes(answer) as usize
+    }
+
+    fn tally(&mut self, t1: u64, t2: u64) -> [u64; 21] {
+        let mut answer = [0; 168];
+        assert_eq!(self.by_plate(t1, t2, &mut answer), 0, "the store refuses a tally");
+        std::array::from_fn(|i| u64::from_le_bytes(answer[8 * i..8 * i + 8].try_into().unwrap()))
+    }
+}

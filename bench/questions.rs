@@ -1,0 +1,63 @@
+//! The windows that are asked for at one S.
+use crate::field::Field;
+use crate::gym::{absent_load, Random, DAY};
+use plain::{Window, LOAD_MAX, LOAD_MIN};
+
+/// A range of loads two plates wide.
+const RANGE: i32 = 1_000;
+
+pub struct Questions {
+    random: Random,
+    first: u64,
+    last: u64,
+}
+
+impl Questions {
+    pub fn new(field: &Field) -> Questions {
+        Questions { random: Random(field.slots), first: field.span.0, last: field.span.1 }
+    }
+
+    fn loads(&mut self) -> (i32, i32) {
+        let low = self.random.within(-6, 16) as i32 * 500 - 250;
+        (low, low + RANGE)
+    }
+
+    /// Days of training among the last so many, each with a range of loads.
+    pub fn days(&mut self, n: usize, among_last: u64) -> Vec<Window> {
+        let (first, last) = (self.first / DAY, self.last / DAY);
+        let from = first.max(last.saturating_sub(among_last - 1));
+        let mut windows = Vec::new();
+        while windows.len() < n {
+            let day = self.random.within(from as i64, last as i64) as u64;
+            let (k1, k2) = self.loads();
+            if day % 7 != 6 {
+                windows.push(Window { t1: day * DAY, t2: day * DAY + DAY - 1, k1, k2 });
+            }
+        }
+        windows
+    }
+
+    pub fn whole_log(&mut self, n: usize) -> Vec<Window> {
+        (0..n)
+            .map(|_| {
+                let (k1, k2) = self.loads();
+                Window { t1: self.first, t2: self.last, k1, k2 }
+            })
+            .collect()
+    }
+
+    /// Loads that were never logged, within the segments' load spans.
+    pub fn absent(&mut self, n: usize) -> Vec<Window> {
+        (0..n)
+            .map(|_| {
+                let load = absent_load(self.random.within(-4, 14) as i32);
+                Window { t1: self.first, t2: self.last, k1: load, k2: load }
+            })
+            .collect()
+    }
+}
+
+/// The whole log at all loads.
+pub fn everything(field: &Field) -> Window {
+    Window { t1: field.span.0, t2: field.span.1, k1: LOAD_MIN, k2: LOAD_MAX }
+}

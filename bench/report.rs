@@ -1,0 +1,98 @@
+//! The tables, as Markdown, and the targets with what was measured.
+use crate::field::NAMES;
+use crate::measure::{ratio, spread, Line, Rounds};
+
+pub const APPEND: &str = "append";
+pub const RECENT_DAY: &str = "search, a day of the last 30";
+pub const ANY_DAY: &str = "search, any day";
+pub const WHOLE_LOG: &str = "search, whole log";
+pub const ABSENT: &str = "search, absent load";
+pub const TALLY_DAY: &str = "tally, any day";
+pub const TALLY_ALL: &str = "tally, whole log";
+
+const STACK_MOST: usize = 65_536;
+
+/// A whole number with its thousands apart.
+fn grouped(number: f64) -> String {
+    let digits = format!("{number:.0}");
+    let mut text = String::new();
+    for (i, digit) in digits.chars().enumerate() {
+        if i > 0 && (digits.len() - i) % 3 == 0 {
+            text.push(',');
+        }
+        text.push(digit);
+    }
+    text
+}
+
+fn cell(rounds: &Rounds) -> String {
+    spread(rounds.clone()).map_or("-".into(), |values| {
+        let [least, median, most] = values.map(grouped);
+        format!("{median} ({least} to {most})")
+    })
+}
+
+fn ratio_cell(line: &Line, above: usize, below: usize) -> String {
+    ratio(&line.rounds[above], &line.rounds[below]).map_or("-".into(), |r| format!("{r:.2}"))
+}
+
+pub fn table(lines: &[Line]) {
+    let names = NAMES.join(" | ");
+    println!("| S | call | lifts | {names} | store/(a) | (b)/store | (c)/store |");
+    println!("|---|---|---|---|---|---|---|---|---|---|");
+    for line in lines {
+        let cells = line.rounds.each_ref().map(cell).join(" | ");
+        let ratios = [(0, 1), (2, 0), (3, 0)].map(|(above, below)| ratio_cell(line, above, below));
+        let found = grouped(line.found);
+        println!("| {} | {} | {found} | {cells} | {} |", line.slots, line.call, ratios.join(" | "));
+    }
+}
+
+pub fn stacks(depths: &[(&str, usize)]) {
+    println!("| call | stack, bytes |");
+    println!("|---|---|");
+    for (call, bytes) in depths {
+        println!("| {call} | {} |", grouped(*bytes as f64));
+    }
+}
+
+fn target(what: &str, measured: String, reached: bool) {
+    println!("| {what} | {measured} | {} |", if reached { "reached" } else { "missed" });
+}
+
+fn find<'a>(lines: &'a [Line], slots: u64, call: &str) -> &'a Line {
+    lines.iter().find(|line| line.slots == slots && line.call == call).expect("a measured line")
+}
+
+/// The outside functions that an archive without a heap may call.
+const MEMORY_FUNCTIONS: [&str; 5] = ["memcpy", "memmove", "memset", "memcmp", "bcmp"];
+
+pub fn targets(lines: &[Line], append_ratio: f64, depths: &[(&str, usize)], symbols: &str) {
+    println!("| target | measured | |");
+    println!("|---|---|---|");
+    time_targets(lines, append_ratio);
+    let heapless = symbols.split_whitespace().all(|symbol| MEMORY_FUNCTIONS.contains(&symbol));
+    target("no heap: the archive calls nothing outside but memory functions", symbols.trim().to_string(), heapless);
+    let deepest = depths.iter().map(|&(_, bytes)| bytes).max().expect("some calls");
+    target("a call's stack: under 64 KiB", format!("{} bytes", grouped(deepest as f64)), deepest < STACK_MOST);
+}
+
+fn time_targets(lines: &[Line], append_ratio: f64) {
+    for line in lines.iter().filter(|line| !line.call.starts_with("tally")) {
+        let ratio = ratio(&line.rounds[0], &line.rounds[1]).expect("both are always measured");
+        let what = format!("{}, S = {}: at most 1.5 times (a)", line.call, line.slots);
+        target(&what, format!("{ratio:.2} times"), ratio <= 1.5);
+    }
+    let what = "append at S = 4096: within 1.3 times of S = 2, measured in turns";
+    target(what, format!("{append_ratio:.2} times"), append_ratio <= 1.3);
+    for call in [RECENT_DAY, ANY_DAY] {
+        for (other, name) in [(2, "(b)"), (3, "(c)")] {
+            let what = format!("{call}, S = 4096: ten times faster than {name}");
+            let rounds = &find(lines, 4_096, call).rounds;
+            match ratio(&rounds[other], &rounds[0]) {
+                Some(faster) => target(&what, format!("{faster:.1} times"), faster >= 10.0),
+                None => println!("| {what} | not measured | skipped |"),
+            }
+        }
+    }
+}

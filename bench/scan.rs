@@ -1,0 +1,39 @@
+//! A plain array of all retained lifts, scanned from end to end.
+use crate::lift::{Contender, Lift, RECORD_BYTES};
+use plain::{plate_of, Window};
+
+#[derive(Default)]
+pub struct Scan {
+    lifts: Vec<Lift>,
+}
+
+impl Contender for Scan {
+    fn append(&mut self, lift: &Lift) {
+        self.lifts.push(*lift);
+    }
+
+    fn search(&mut self, w: &Window, rows: &mut [u8]) -> usize {
+        let mut found = 0;
+        for lift in &self.lifts {
+            if w.t1 <= lift.time && lift.time <= w.t2 && w.k1 <= lift.load && lift.load <= w.k2 {
+                lift.write(&mut rows[found * RECORD_BYTES..][..RECORD_BYTES]);
+                found += 1;
+            }
+        }
+        found
+    }
+
+    fn tally(&mut self, t1: u64, t2: u64) -> [u64; 21] {
+        let mut counts = [0; 21];
+        for lift in &self.lifts {
+            if t1 <= lift.time && lift.time <= t2 {
+                counts[plate_of(lift.load).expect("a plate")] += 1;
+            }
+        }
+        counts
+    }
+
+    fn forget_before(&mut self, time: u64) {
+        self.lifts.retain(|lift| lift.time >= time);
+    }
+}
