@@ -24,6 +24,11 @@ fn column(n: u64) {
     io::write_all(STDOUT, &o);
 }
 
+fn item(n: u64) {
+    io::write_all(STDOUT, b" ");
+    io::print_decimal(STDOUT, n);
+}
+
 fn end_line() {
     io::write_all(STDOUT, b"\n");
 }
@@ -95,20 +100,20 @@ fn word(what: u8) {
 // The call of a line at which store and list first differ: its S, times and stored loads, then both numbers.
 pub fn difference(number: u64, c: Call, expected: u8, found: u8) {
     io::write_all(STDOUT, b"difference at call");
-    column(number);
+    item(number);
     word(c.what);
     arguments(c);
     io::write_all(STDOUT, b", list and store");
-    column(expected as u64);
-    column(found as u64);
+    item(expected as u64);
+    item(found as u64);
     end_line();
 }
 
 fn arguments(c: Call) {
     let q = c.q;
-    column(c.slots);
-    column(q.t1);
-    column(q.t2);
-    column(q.k1);
-    column(q.k2);
+    item(c.slots);
+    item(q.t1);
+    item(q.t2);
+    item(q.k1);
+    item(q.k2);
 }

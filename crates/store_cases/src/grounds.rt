@@ -275,6 +275,7 @@ fn plates() {
     plate(-500);
     plate(250);
     plate(251);
+    plate(9750);
     plate(9751);
     plate(-50001);
     plate(PAST_LOAD);

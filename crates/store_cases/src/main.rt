@@ -31,6 +31,7 @@ fn holding(nand: &mut [u8], nor: &mut [u8]) {
 fn calling(nand: &mut [u8], nor: &mut [u8]) {
     moves::closes_and_drops(nand, nor);
     queries::searches(nand, nor);
+    queries::split_root(nand, nor);
     grounds::refusals(nand, nor);
 }
 

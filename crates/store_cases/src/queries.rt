@@ -154,6 +154,64 @@ fn loads(nand: &[u8], nor: &[u8], s: State) {
     );
 }
 
+// 13 lifts of 5 kg make 5 kg the mid of the root; one more goes left, and one of 5.01 kg right.
+fn about_a_mid(nand: &mut [u8], nor: &mut [u8]) -> State {
+    let s = build::formatted(nand, nor, 3);
+    let a = build::run(nand, nor, 3, s, 14, 50501, 0);
+    build::run(nand, nor, 3, a, 1, 50502, 0)
+}
+
+fn mids(nand: &[u8], nor: &[u8], s: State) {
+    let all = 999999999999999;
+    print::case(b"a split root", 0, s, nand, nor);
+    search(nand, nor, b"its mid", s, window_of(0, all, 500, 500), 448);
+    search(
+        nand,
+        nor,
+        b"up to its mid",
+        s,
+        window_of(0, all, -50000, 500),
+        448,
+    );
+    search(
+        nand,
+        nor,
+        b"its mid and the next load",
+        s,
+        window_of(0, all, 500, 501),
+        480,
+    );
+    search(
+        nand,
+        nor,
+        b"above its mid",
+        s,
+        window_of(0, all, 501, 100000),
+        32,
+    );
+    search(
+        nand,
+        nor,
+        b"below its mid",
+        s,
+        window_of(0, all, -50000, 499),
+        0,
+    );
+}
+
+fn closed(nand: &mut [u8], nor: &mut [u8], s: State) -> State {
+    let a = s.close(nand, nor, 3);
+    a.state
+}
+
+// The tree of the open segment, then of the closed one.
+pub fn split_root(nand: &mut [u8], nor: &mut [u8]) {
+    let s = about_a_mid(nand, nor);
+    mids(nand, nor, s);
+    let t = closed(nand, nor, s);
+    mids(nand, nor, t);
+}
+
 fn count(n: u64) {
     print::item(b" ", n);
 }
@@ -184,7 +242,16 @@ fn all(nand: &[u8], nor: &[u8], s: State) {
     tally(nand, nor, b"tally of serial 2", s, 20999, 39999);
 }
 
+// Loads 250, 251, 9,750 and 9,751: plates 0, 1, 19 and 20.
+fn plate_ends(nand: &mut [u8], nor: &mut [u8]) -> State {
+    let s = build::formatted(nand, nor, 3);
+    let a = build::run(nand, nor, 3, s, 2, 50251, 1);
+    build::run(nand, nor, 3, a, 2, 59751, 1)
+}
+
 pub fn searches(nand: &mut [u8], nor: &mut [u8]) {
     let s = three_parts(nand, nor);
     all(nand, nor, s);
+    let t = plate_ends(nand, nor);
+    tally(nand, nor, b"tally at ends of plates", t, 0, 999999999999999);
 }
