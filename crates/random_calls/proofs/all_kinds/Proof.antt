@@ -1,0 +1,62 @@
+-- Kinds stay below eight; chips, area and totals keep their lengths.
+use Prim.Native.Nat.{_-_, _≤_}
+use mathlib.Core.Path.{_≡_}
+use lib.ListN.{length}
+use borrow.Author.Needs.{needs}
+use Rattle.random_calls.proofs.all_kinds.Statement.{statement}
+use Rattle.random_calls.proofs.all_kinds.Tie as tie
+
+abbrev Inv-loop : tie.InvT-loop
+Inv-loop nand₀ nor₀ area₀ totals₀ slots kind₀ nand nor area totals kind =
+    (kind ≤ 8) × ((length nand ≡ length nand₀) × ((length nor ≡ length nor₀)
+    × ((length area ≡ length area₀) × (length totals ≡ length totals₀))))
+
+abbrev μ-loop : tie.MeasureT-loop
+μ-loop nand₀ nor₀ area₀ totals₀ slots kind₀ nand nor area totals kind = 8 - kind
+
+loop-holds : tie.Need-loop-holds Inv-loop μ-loop
+loop-holds c = search needs
+
+kind-of-loads-requires : tie.Need-kind-of-loads-requires Inv-loop μ-loop
+kind-of-loads-requires c κs = search needs
+
+add-kind : tie.Need-add-kind Inv-loop μ-loop
+add-kind c = search needs
+
+loop-less : tie.Need-loop-less Inv-loop μ-loop
+loop-less c = search needs
+
+loop-again : tie.Need-loop-again Inv-loop μ-loop
+loop-again c = search needs
+
+same-length : tie.Need-same-length Inv-loop μ-loop
+same-length c = search needs
+
+same-length-2 : tie.Need-same-length-2 Inv-loop μ-loop
+same-length-2 c = search needs
+
+same-length-3 : tie.Need-same-length-3 Inv-loop μ-loop
+same-length-3 c = search needs
+
+same-length-4 : tie.Need-same-length-4 Inv-loop μ-loop
+same-length-4 c = search needs
+
+returns : tie.Need-returns Inv-loop μ-loop
+returns c = search needs
+
+pub all-kinds-spec : {M : Type 1} → statement M
+all-kinds-spec =
+    tie.close
+    (tie.spec
+    Inv-loop
+    μ-loop
+    loop-holds
+    kind-of-loads-requires
+    add-kind
+    loop-less
+    loop-again
+    same-length
+    same-length-2
+    same-length-3
+    same-length-4
+    returns)

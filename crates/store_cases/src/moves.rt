@@ -1,0 +1,55 @@
+// Closes and drops between appends, with S = 3.
+use crate::build;
+use crate::print;
+use store::State;
+
+// Three segments of 5, 20 and 70 lifts: one page, two, and two Bloom sections.
+fn three_segments(nand: &mut [u8], nor: &mut [u8]) -> State {
+    let a = build::first_segment(nand, nor, 3, 5, 48001, 500);
+    let b = build::segment(nand, nor, 3, a, 20, 49001, 100);
+    build::segment(nand, nor, 3, b, 70, 50501, 0)
+}
+
+fn drop(nand: &mut [u8], nor: &[u8], name: &[u8], s: State) -> State {
+    let a = s.drop(nand, nor, 3);
+    let t = a.state;
+    print::case(name, a.number, t, nand, nor);
+    t
+}
+
+// An append into serial 4 makes serial 1 go; drops then go to the last closed segment, and past it.
+fn to_the_last(nand: &mut [u8], nor: &mut [u8], s0: State) {
+    let a = build::append(nand, nor, 3, s0, 1);
+    let s1 = a.state;
+    print::case(b"first lift of serial 4", a.number, s1, nand, nor);
+    past_the_last(nand, nor, s1);
+}
+
+fn past_the_last(nand: &mut [u8], nor: &[u8], s1: State) {
+    let s2 = drop(nand, nor, b"drop of serial 2", s1);
+    let s3 = drop(nand, nor, b"drop of serial 3", s2);
+    drop(nand, nor, b"no closed segment", s3);
+}
+
+// Drops with no open lift: the oldest live time ends at the next time.
+fn to_none(nand: &mut [u8], nor: &[u8], s0: State) {
+    let s1 = drop(nand, nor, b"drop of serial 1", s0);
+    let s2 = drop(nand, nor, b"drop of serial 2", s1);
+    drop(nand, nor, b"drop of serial 3, no lift left", s2);
+}
+
+fn with_open_lift(nand: &mut [u8], nor: &mut [u8]) {
+    let s = three_segments(nand, nor);
+    print::case(b"three closed segments", 0, s, nand, nor);
+    to_the_last(nand, nor, s);
+}
+
+fn without_open_lift(nand: &mut [u8], nor: &mut [u8]) {
+    let s = three_segments(nand, nor);
+    to_none(nand, nor, s);
+}
+
+pub fn closes_and_drops(nand: &mut [u8], nor: &mut [u8]) {
+    with_open_lift(nand, nor);
+    without_open_lift(nand, nor);
+}
