@@ -1,6 +1,4 @@
 //! Reads a script on standard input and answers it with the built library.
-mod abi;
-
 use script::interpreter::Interpreter;
 use std::io::{stdin, stdout, BufWriter};
 use std::process::ExitCode;

@@ -22,12 +22,20 @@ impl Lift {
     }
 }
 
+/// Why the open serial closed in a call.
+#[derive(Clone, Copy, PartialEq)]
+pub enum Closed {
+    ByClose,
+    At320Lifts,
+    ForBucket36,
+}
+
 /// What the log says of a call beside its number.
 #[derive(Default)]
 pub struct Said {
     /// A serial that went: its slot, and no other, is erased in this call.
     pub gone: Option<u64>,
-    pub closed: bool,
+    pub closed: Option<Closed>,
     /// The rows of a search, one after another.
     pub rows: Vec<u8>,
     /// Of a search the count of rows, of a tally its counts, of a lookup the plate.
@@ -105,10 +113,14 @@ impl PaperLog {
         refuse_if(lift.time < self.next_time, TIME_BELOW_NEXT)?;
         refuse_if(self.open_serial >= u64::from(LAST_SERIAL) - 1, LAST_SERIALS)?;
         let mut said = Said::default();
-        if self.open.len() == SEGMENT_LIFTS || !self.open_tree.take(lift.load) {
+        if self.open.len() == SEGMENT_LIFTS {
+            said.closed = Some(Closed::At320Lifts);
+        } else if !self.open_tree.take(lift.load) {
+            said.closed = Some(Closed::ForBucket36);
+        }
+        if said.closed.is_some() {
             self.begin_next_serial();
             self.open_tree.take(lift.load);
-            said.closed = true;
         }
         self.next_time = lift.time + 1;
         self.open.push(lift);
@@ -128,7 +140,7 @@ impl PaperLog {
     fn close(&mut self) -> Outcome<Said> {
         refuse_if(self.open.is_empty(), NOTHING_TO_DO)?;
         self.begin_next_serial();
-        Ok(Said { closed: true, ..Said::default() })
+        Ok(Said { closed: Some(Closed::ByClose), ..Said::default() })
     }
 
     fn drop_oldest(&mut self) -> Outcome<Said> {

@@ -1,0 +1,139 @@
+//! Holds the built library to the model: random lists and damaged stores, or one script.
+mod bases;
+mod damage;
+mod edges;
+mod figures;
+mod habits;
+mod judge;
+mod lengths;
+mod lists;
+mod page_rules;
+mod patterns;
+mod random;
+mod session;
+mod shorten;
+mod states;
+
+use judge::{Difference, Judge, Step};
+use script::command::Command;
+use script::parse::parse;
+use session::Session;
+use std::process::ExitCode;
+use std::time::{Duration, Instant};
+
+const USAGE: &str = "compare random SECONDS SEED FOLDER | compare fixed SCRIPT.. | compare write SEED KIND";
+
+type Kind = (&'static str, fn(&mut Session) -> Step);
+const LARGE: Kind = ("large", lists::on_largest_chip);
+const KINDS: [Kind; 5] = [
+    ("list", lists::short_or_long),
+    ("damage", damage::rounds),
+    ("state", states::rounds),
+    ("edge", edges::rounds),
+    LARGE,
+];
+
+/// The kind of the list at a place in the run. The largest chip is slow, so it comes seldom.
+fn kind_at(place: u64) -> Kind {
+    match place {
+        place if place % 1000 == 10 => LARGE,
+        place => KINDS[[0, 1, 0, 1, 2, 0, 1, 3][(place % 8) as usize]],
+    }
+}
+
+fn main() -> ExitCode {
+    let words: Vec<String> = std::env::args().skip(1).collect();
+    let words: Vec<&str> = words.iter().map(String::as_str).collect();
+    let done = match words[..] {
+        ["random", seconds, seed, folder] => match (seconds.parse(), seed.parse()) {
+            (Ok(seconds), Ok(seed)) => random_run(seconds, seed, folder),
+            _ => Err(USAGE.to_string()),
+        },
+        ["fixed", ref scripts @ ..] => fixed_run(scripts),
+        ["write", seed, kind] => match (seed.parse(), KINDS.iter().find(|(name, _)| *name == kind)) {
+            (Ok(seed), Some(kind)) => write_script(seed, kind),
+            _ => Err(USAGE.to_string()),
+        },
+        _ => Err(USAGE.to_string()),
+    };
+    match done {
+        Ok(()) => ExitCode::SUCCESS,
+        Err(problem) => {
+            println!("{problem}");
+            ExitCode::FAILURE
+        }
+    }
+}
+
+fn text_of(commands: &[Command]) -> String {
+    commands.iter().map(|command| format!("{command}\n")).collect()
+}
+
+/// Prints the script of a seed, made with the model alone.
+fn write_script(seed: u64, (_, generate): &Kind) -> Result<(), String> {
+    let mut judge = Judge::of_model_alone();
+    let mut session = Session::new(&mut judge, seed);
+    generate(&mut session).map_err(|Difference(what)| what)?;
+    print!("{}", text_of(&session.commands));
+    Ok(())
+}
+
+/// Runs stored scripts; together they must meet every number of every call.
+fn fixed_run(scripts: &[&str]) -> Result<(), String> {
+    let mut judge = Judge::of_library();
+    for script in scripts {
+        judge.begin_anew();
+        let text = std::fs::read_to_string(script).map_err(|error| format!("{script}: {error}"))?;
+        for (index, line) in text.lines().enumerate() {
+            let told = |what: String| format!("{script}, line {}: {what}", index + 1);
+            let Some(command) = parse(line).map_err(told)? else { continue };
+            judge.perform(&command).map_err(|Difference(what)| told(what))?;
+        }
+    }
+    judge.figures.print();
+    let missing = judge.figures.missing();
+    if !missing.is_empty() {
+        return Err(format!("the scripts never meet: {}", missing.join(", ")));
+    }
+    Ok(())
+}
+
+fn random_run(seconds: u64, first_seed: u64, folder: &str) -> Result<(), String> {
+    let begun = Instant::now();
+    let mut judge = Judge::of_library();
+    let mut lists = 0;
+    while begun.elapsed() < Duration::from_secs(seconds) {
+        let seed = first_seed.wrapping_add(lists);
+        let (name, generate) = kind_at(lists);
+        note_list_under_way(folder, seed, name)?;
+        let mut session = Session::new(&mut judge, seed);
+        if let Err(Difference(what)) = generate(&mut session) {
+            return Err(report(seed, name, &what, session.commands, folder));
+        }
+        lists += 1;
+    }
+    judge.figures.print();
+    let last_seed = first_seed.wrapping_add(lists).wrapping_sub(1);
+    println!("seeds {first_seed} to {last_seed}, {:.1} seconds", begun.elapsed().as_secs_f64());
+    println!("{} calls in {lists} scripts, no difference", judge.figures.total_calls());
+    Ok(())
+}
+
+/// If the library stops the whole program, the file tells which list it was.
+fn note_list_under_way(folder: &str, seed: u64, kind: &str) -> Result<(), String> {
+    std::fs::write(format!("{folder}/under_way"), format!("{seed} {kind}\n")).map_err(|error| error.to_string())
+}
+
+/// Writes the script that shows a difference, shortened if it can be, and tells its name.
+fn report(seed: u64, kind: &str, what: &str, commands: Vec<Command>, folder: &str) -> String {
+    let is_shown_by_script = shorten::first_difference(&commands).is_some();
+    let commands = if is_shown_by_script { shorten::shortened(commands) } else { commands };
+    let shown = shorten::first_difference(&commands).map_or("", |_| "\nshown by the script: ");
+    let what_is_shown = shorten::first_difference(&commands).map_or(String::new(), |(_, Difference(what))| what);
+    let name = format!("{folder}/difference-{kind}-{seed}.script");
+    let written = match std::fs::write(&name, text_of(&commands)) {
+        Ok(()) => format!("script of {} lines: {name}", commands.len()),
+        Err(error) => format!("{name}: {error}"),
+    };
+    format!("DIFFERENCE in {kind}, seed {seed}: {what}{shown}{what_is_shown}\n{written}")
+}
