@@ -2,6 +2,7 @@
 use crate::bases;
 use crate::habits::Habits;
 use crate::judge::Step;
+use crate::mids;
 use crate::random::Random;
 use crate::session::{Session, NOR_BYTES};
 use model::limits::LAST_TIME;
@@ -30,6 +31,8 @@ pub fn rounds(session: &mut Session) -> Step {
         for _ in 0..1 + session.random.below(5) {
             call_after_damage(session, &mut habits)?;
         }
+        session.run(Command::Back)?;
+        mids::search_beside_damage(session, habits.slots)?;
     }
     Ok(())
 }

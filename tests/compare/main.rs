@@ -7,6 +7,7 @@ mod habits;
 mod judge;
 mod lengths;
 mod lists;
+mod mids;
 mod page_rules;
 mod patterns;
 mod random;
