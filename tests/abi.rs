@@ -1,6 +1,6 @@
 //! The store's C interface, called with areas that have margins.
 use script::areas::Areas;
-use script::calls::{Call, Outputs, Store};
+use script::calls::{Call, Outputs, Store, Window};
 
 mod c {
     #[link(name = "store_abi", kind = "static")]
@@ -16,7 +16,8 @@ mod c {
             state: *mut u8, state_len: usize, nand: *mut u8, nand_len: usize, nor: *mut u8, nor_len: usize, slots: u64,
         ) -> u8;
         pub fn store_drop(
-            state: *mut u8, state_len: usize, nand: *mut u8, nand_len: usize, nor: *const u8, nor_len: usize, slots: u64,
+            state: *mut u8, state_len: usize, nand: *mut u8, nand_len: usize, nor: *const u8, nor_len: usize,
+            slots: u64,
         ) -> u8;
         pub fn store_search(
             state: *const u8, state_len: usize, nand: *const u8, nand_len: usize, nor: *const u8, nor_len: usize,
@@ -88,12 +89,11 @@ impl Store for Library {
 }
 
 /// Calls the library with areas of whatever lengths.
-pub fn enter(
-    call: &Call, state: &mut [u8], nand: &mut [u8], nor: &mut [u8], rows: &mut [u8], values: &mut [u8],
-) -> u8 {
+pub fn enter(call: &Call, state: &mut [u8], nand: &mut [u8], nor: &mut [u8], rows: &mut [u8], values: &mut [u8]) -> u8 {
     let (st, st_len) = (state.as_mut_ptr(), state.len());
     let (na, na_len) = (nand.as_mut_ptr(), nand.len());
     let (no, no_len) = (nor.as_mut_ptr(), nor.len());
+    let (ro, ro_len) = (rows.as_mut_ptr(), rows.len());
     let (va, va_len) = (values.as_mut_ptr(), values.len());
     // Sound if the library keeps to the areas whose lengths it is told, which is what is under test.
     unsafe {
@@ -104,10 +104,10 @@ pub fn enter(
             }
             Call::Close { slots } => c::store_close(st, st_len, na, na_len, no, no_len, slots),
             Call::Drop { slots } => c::store_drop(st, st_len, na, na_len, no, no_len, slots),
-            Call::Search { slots, window: w, .. } => c::store_search(
-                st, st_len, na, na_len, no, no_len, slots, w.t1, w.t2, w.k1, w.k2, rows.as_mut_ptr(), rows.len(),
-                va, va_len,
-            ),
+            Call::Search { slots, window: Window { t1, t2, k1, k2 }, .. } => {
+                let search = c::store_search;
+                search(st, st_len, na, na_len, no, no_len, slots, t1, t2, k1, k2, ro, ro_len, va, va_len)
+            }
             Call::Tally { slots, t1, t2 } => {
                 c::store_tally(st, st_len, na, na_len, no, no_len, slots, t1, t2, va, va_len)
             }

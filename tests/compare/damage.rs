@@ -10,15 +10,13 @@ use script::areas::{PAGE_BYTES, SLOT_BYTES};
 use script::calls::Call;
 use script::command::{Command, Field, Part};
 
-const HEADER_FIELDS: [(usize, usize); 18] = [
-    (0, 4), (4, 2), (6, 1), (7, 1), (8, 1), (9, 1), (10, 1), (16, 8), (24, 8), (32, 4), (36, 4), (40, 2), (42, 8),
-    (50, 2), (52, 8), (60, 2), (62, 8), (70, 2),
-];
+/// Offsets and widths in the header page, its four pointers apart.
+const HEADER_FIELDS: [(usize, usize); 11] =
+    [(0, 4), (4, 2), (6, 1), (7, 1), (8, 1), (9, 1), (10, 1), (16, 8), (24, 8), (32, 4), (36, 4)];
 const BUCKET_FIELDS: [(usize, usize); 5] = [(0, 4), (4, 4), (8, 4), (12, 1), (13, 1)];
 /// Numbers that some bound or mark of document 01 stands at.
-const MARKS: [u64; 20] = [
-    0, 1, 2, 4, 5, 12, 13, 35, 36, 37, 102, 128, 255, 319, 320, 321, 65_535, 150_001, 150_002, LAST_TIME + 1,
-];
+const MARKS: [u64; 20] =
+    [0, 1, 2, 4, 5, 12, 13, 35, 36, 37, 102, 128, 255, 319, 320, 321, 65_535, 150_001, 150_002, LAST_TIME + 1];
 
 pub fn rounds(session: &mut Session) -> Step {
     let mut habits = bases::any(session)?;
@@ -80,6 +78,14 @@ fn bucket_field(random: &mut Random) -> (usize, usize) {
     }
 }
 
+fn header_field(random: &mut Random) -> (usize, usize) {
+    let pointer = 40 + 10 * random.index(4);
+    match random.below(3) {
+        0 => random.pick(&[(pointer, 2), (pointer, 1), (pointer + 2, 8)]),
+        _ => random.pick(&HEADER_FIELDS),
+    }
+}
+
 fn damage_once(session: &mut Session, slots: u64) -> Step {
     let buckets = session.field(Field::Buckets) as usize;
     let random = &mut session.random;
@@ -87,7 +93,7 @@ fn damage_once(session: &mut Session, slots: u64) -> Step {
     let (field, width) = bucket_field(random);
     match random.below(14) {
         0..=2 => {
-            let (field, width) = random.pick(&HEADER_FIELDS);
+            let (field, width) = header_field(random);
             change_field(session, Part::Nand, slot + 31 * PAGE_BYTES + field, width)
         }
         3..=5 => {

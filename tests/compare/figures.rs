@@ -47,7 +47,8 @@ impl Figures {
 
     /// Every pair of call and number that was not met.
     pub fn missing(&self) -> Vec<String> {
-        let pairs = NUMBERS_OF_CALLS.iter().enumerate().flat_map(|(kind, numbers)| numbers.iter().map(move |n| (kind, *n)));
+        let pairs =
+            NUMBERS_OF_CALLS.iter().enumerate().flat_map(|(kind, numbers)| numbers.iter().map(move |n| (kind, *n)));
         pairs
             .filter(|(kind, number)| self.calls[*kind][*number] == 0)
             .map(|(kind, number)| format!("{} {number}", Call::NAMES[kind]))
@@ -65,7 +66,10 @@ impl Figures {
         }
         println!(
             "calls {}, also held to the paper log {}, rows compared {}, calls with a wrong length {}",
-            self.total_calls(), self.by_paper_log, self.rows, self.wrong_lengths
+            self.total_calls(),
+            self.by_paper_log,
+            self.rows,
+            self.wrong_lengths
         );
         println!(
             "closes at 320 lifts {}, closes for bucket 36 {}, forced drops {}",

@@ -47,7 +47,8 @@ fn try_wrong_one(session: &mut Session, call: &Call) -> Step {
     let (state_before, outputs_before) = (state.clone(), outputs.clone());
     let number = session.judge.call_with(call, &mut state, &mut outputs.rows, &mut outputs.values);
     let Some(number) = number else { return Ok(()) };
-    let lengths = format!("{call} with a state area of {} and an answer area of {} bytes", state.len(), outputs.values.len());
+    let lengths =
+        format!("{call} with a state area of {} and an answer area of {} bytes", state.len(), outputs.values.len());
     if number != WRONG_LENGTH {
         return Err(Difference(format!("{lengths}: number {number}, expected {WRONG_LENGTH}")));
     }

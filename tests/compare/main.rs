@@ -37,7 +37,7 @@ const KINDS: [Kind; 5] = [
 /// The kind of the list at a place in the run. The largest chip is slow, so it comes seldom.
 fn kind_at(place: u64) -> Kind {
     match place {
-        place if place % 1000 == 10 => LARGE,
+        place if place % 1000 == 100 => LARGE,
         place => KINDS[[0, 1, 0, 1, 2, 0, 1, 3][(place % 8) as usize]],
     }
 }

@@ -17,7 +17,9 @@ pub fn check(nand: [&Vec<u8>; 2], nor: [&Vec<u8>; 2], said: &Said) -> Result<(),
     let [nor_before, nor_after] = nor;
     let sets_a_bit = nor_before.iter().zip(nor_after).position(|(before, after)| after & !before != 0);
     match sets_a_bit {
-        Some(place) if said.closed.is_none() => Err(format!("NOR byte {place} turns zeros to ones and no segment closed")),
+        Some(place) if said.closed.is_none() => {
+            Err(format!("NOR byte {place} turns zeros to ones and no segment closed"))
+        }
         _ => Ok(()),
     }
 }

@@ -5,15 +5,26 @@ use model::limits::{GREATEST_LOAD, LAST_TIME, LEAST_LOAD};
 pub enum Loads {
     Equal(i32),
     /// From a load on by a step, turning at the limits.
-    Steady { load: i32, step: i32 },
-    Clustered { centres: Vec<i32>, spread: i32 },
+    Steady {
+        load: i32,
+        step: i32,
+    },
+    Clustered {
+        centres: Vec<i32>,
+        spread: i32,
+    },
     /// Anything between two loads.
     Between(i32, i32),
     AtLimits,
     /// Half-way again and again towards one load, which grows a deep tree.
-    Closing { load: i32, towards: i32 },
+    Closing {
+        load: i32,
+        towards: i32,
+    },
     /// By the golden section of the whole range, which needs bucket 36 every other time.
-    Even { load: i32 },
+    Even {
+        load: i32,
+    },
 }
 
 impl Loads {
@@ -53,7 +64,11 @@ impl Loads {
             Loads::Between(least, greatest) => random.load(*least, *greatest),
             Loads::AtLimits => {
                 let near = random.load(0, 2);
-                if random.once_in(2) { LEAST_LOAD + near } else { GREATEST_LOAD - near }
+                if random.once_in(2) {
+                    LEAST_LOAD + near
+                } else {
+                    GREATEST_LOAD - near
+                }
             }
             Loads::Closing { load, towards } => {
                 *load += (*towards - *load) / 2;

@@ -9,7 +9,9 @@ const PATIENCE: Duration = Duration::from_secs(8);
 pub fn first_difference(commands: &[Command]) -> Option<(usize, Difference)> {
     let mut judge = Judge::of_library();
     let steps = commands.iter().enumerate();
-    steps.map(|(index, command)| (index + 1, judge.perform(command))).find_map(|(taken, step)| Some((taken, step.err()?)))
+    steps
+        .map(|(index, command)| (index + 1, judge.perform(command)))
+        .find_map(|(taken, step)| Some((taken, step.err()?)))
 }
 
 /// Leaves out runs of commands, shorter and shorter ones, as long as some difference is left.

@@ -50,7 +50,9 @@ fn bound_of(session: &mut Session, field: Field, slots: u64) -> i128 {
     let (slots, last, edge) = (i128::from(slots), i128::from(LAST_SERIAL), i128::from(LAST_TIME) + 1);
     let choices: Vec<i128> = match field {
         Field::Oldest => vec![0, 1, open, open + 1, open - slots - 1, open - slots, open - slots + 1, last, last + 1],
-        Field::Open => vec![0, 1, oldest, oldest + slots - 1, oldest + slots, oldest + slots + 1, last - 1, last, last + 1],
+        Field::Open => {
+            vec![0, 1, oldest, oldest + slots - 1, oldest + slots, oldest + slots + 1, last - 1, last, last + 1]
+        }
         Field::Count => vec![0, 1, 12, 13, 15, 16, 63, 64, 319, 320, 321, 65_535],
         Field::Buckets => vec![0, 1, 2, 35, 36, 37, 255],
         Field::Next => vec![0, 1, start, start + 1, edge - 1, edge, edge + 1, u64::MAX.into()],

@@ -8,9 +8,18 @@ use crate::split;
 pub enum Place {
     /// The tree is empty: a root.
     Root,
-    Entry { bucket: usize, entry: usize },
+    Entry {
+        bucket: usize,
+        entry: usize,
+    },
     /// A new child (x, y] of `parent`, which is split at `new_mid` first if it has none.
-    Child { parent: usize, new_mid: Option<i64>, is_left: bool, x: i64, y: i64 },
+    Child {
+        parent: usize,
+        new_mid: Option<i64>,
+        is_left: bool,
+        x: i64,
+        y: i64,
+    },
 }
 
 impl Place {

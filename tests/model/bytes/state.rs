@@ -101,7 +101,9 @@ impl State {
 
     /// Ground 3.
     pub fn breaks_a_bound(&self, slots: u64) -> bool {
-        self.serials_break_a_bound(slots) || self.times_break_a_bound() || self.loads_break_a_bound()
+        self.serials_break_a_bound(slots)
+            || self.times_break_a_bound()
+            || self.loads_break_a_bound()
             || self.heads.iter().any(|head| head.slot_is_bad(slots))
     }
 
