@@ -87,7 +87,7 @@ impl Habits {
                 session.call(Call::Plate { load })
             }
             _ => {
-                let found = session.rows_found(slots, window) * ROW_BYTES;
+                let found = session.rows_found(slots, &window) * ROW_BYTES;
                 let area_bytes = match session.random.below(6) {
                     0 => found,
                     1 => found.saturating_sub(1),
@@ -101,7 +101,7 @@ impl Habits {
 
     pub fn search_all(&mut self, session: &mut Session) -> Step {
         let window = Window { t1: 0, t2: LAST_TIME, k1: LEAST_LOAD, k2: GREATEST_LOAD };
-        let area_bytes = (session.rows_found(self.slots, window) + 1) * ROW_BYTES;
+        let area_bytes = (session.rows_found(self.slots, &window) + 1) * ROW_BYTES;
         session.call(Call::Search { slots: self.slots, window, area_bytes })
     }
 

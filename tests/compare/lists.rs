@@ -16,7 +16,21 @@ pub fn short_or_long(session: &mut Session) -> Step {
 
 /// The most slots there are; few calls, since each one compares 64 MB.
 pub fn on_largest_chip(session: &mut Session) -> Step {
-    list(session, 4096, 40)
+    let slots = 4096;
+    list(session, slots, 20)?;
+    session.call(Call::Format { slots })?;
+    // Serials that use the last slots, so that the next ones begin again at slot 0.
+    session.set(Field::Oldest, 4095)?;
+    session.set(Field::Open, 4095)?;
+    session.set(Field::Next, 1)?;
+    let mut habits = Habits::any(slots, &mut session.random);
+    for _ in 0..4 {
+        habits.append(session)?;
+        habits.append(session)?;
+        habits.close(session)?;
+        habits.ask(session)?;
+    }
+    habits.search_all(session)
 }
 
 fn list(session: &mut Session, slots: u64, calls: u64) -> Step {

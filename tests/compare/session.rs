@@ -1,9 +1,9 @@
 //! A script under way: every command goes to the judge and into the record.
 use crate::judge::{Judge, Step};
 use crate::random::Random;
-use model::bytes::Expectation;
+use model::bytes::found;
 use script::areas::{Areas, SLOT_BYTES};
-use script::calls::{Call, Outputs, Store, Window, ROW_BYTES};
+use script::calls::{Call, Window};
 use script::command::{Command, Field, Fill, Part};
 
 pub const NOR_BYTES: usize = 6_144;
@@ -61,17 +61,10 @@ impl<'a> Session<'a> {
     }
 
     /// How many rows a search would find, 0 if it would be refused.
-    pub fn rows_found(&mut self, slots: u64, window: Window) -> usize {
-        if let Some(log) = self.judge.log() {
-            return log.found(&window).map_or(0, |found| found.len());
-        }
-        let area_bytes = self.areas().nand.len() / ROW_BYTES * ROW_BYTES;
-        let call = Call::Search { slots, window, area_bytes };
-        let mut outputs = Outputs::untouched(&call);
-        let mut areas = self.areas().clone();
-        match Expectation.answer(&call, &mut areas, &mut outputs) {
-            0 => outputs.value(0) as usize,
-            _ => 0,
+    pub fn rows_found(&self, slots: u64, window: &Window) -> usize {
+        match self.judge.log() {
+            Some(log) => log.found(window).map_or(0, |found| found.len()),
+            None => found(self.areas(), slots, window).map_or(0, |found| found.len()),
         }
     }
 }

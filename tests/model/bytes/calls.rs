@@ -1,7 +1,7 @@
 //! The calls with their grounds in checking order.
 use super::append::{append_lift, drop_segment};
 use super::close::close_segment;
-use super::search::{find, load_of};
+use super::search::{find, load_of, Record};
 use super::state::State;
 use super::work::Work;
 use crate::limits::*;
@@ -83,13 +83,18 @@ fn put_values(outputs: &mut Outputs, values: &[u64]) {
     outputs.values = values.iter().flat_map(|value| value.to_le_bytes()).collect();
 }
 
-fn search(areas: &Areas, slots: u64, window: &Window, outputs: &mut Outputs) -> Outcome<()> {
+/// The records that a search finds, unless a ground before 12 is against it.
+pub fn found(areas: &Areas, slots: u64, window: &Window) -> Outcome<Vec<Record>> {
     let state = checked_state(areas, slots)?;
     let Window { t1, t2, k1, k2 } = *window;
     refuse_if(time_past_limit(t1) || time_past_limit(t2), TIME_LIMIT)?;
     refuse_if(load_past_limit(k1) || load_past_limit(k2), LOAD_LIMIT)?;
     refuse_if(t1 > t2 || k1 > k2, BACKWARD_RANGE)?;
-    let found = find(areas, &state, slots, window)?;
+    find(areas, &state, slots, window)
+}
+
+fn search(areas: &Areas, slots: u64, window: &Window, outputs: &mut Outputs) -> Outcome<()> {
+    let found = found(areas, slots, window)?;
     refuse_if(found.len() > outputs.rows.len() / ROW_BYTES, TOO_MANY_ROWS)?;
     for (row, record) in outputs.rows.chunks_mut(ROW_BYTES).zip(&found) {
         row.copy_from_slice(record);
@@ -98,14 +103,11 @@ fn search(areas: &Areas, slots: u64, window: &Window, outputs: &mut Outputs) -> 
     Ok(())
 }
 
-/// Counts what a search over all loads finds; ground 5 cannot hold.
+/// Counts what a search over all loads finds; its grounds 5 and 12 cannot hold.
 fn tally(areas: &Areas, slots: u64, t1: u64, t2: u64, outputs: &mut Outputs) -> Outcome<()> {
-    let state = checked_state(areas, slots)?;
-    refuse_if(time_past_limit(t1) || time_past_limit(t2), TIME_LIMIT)?;
-    refuse_if(t1 > t2, BACKWARD_RANGE)?;
     let all_loads = Window { t1, t2, k1: LEAST_LOAD, k2: GREATEST_LOAD };
     let mut counts = [0; PLATES];
-    for record in find(areas, &state, slots, &all_loads)? {
+    for record in found(areas, slots, &all_loads)? {
         counts[plate_of(load_of(&record) as i32)] += 1;
     }
     put_values(outputs, &counts);

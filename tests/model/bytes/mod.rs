@@ -11,4 +11,4 @@ mod search;
 mod state;
 mod work;
 
-pub use calls::Expectation;
+pub use calls::{found, Expectation};

@@ -17,7 +17,7 @@ struct Reader<'a> {
     serial_before: u32,
 }
 
-type Record = [u8; ROW_BYTES];
+pub type Record = [u8; ROW_BYTES];
 
 pub fn load_of(record: &Record) -> i64 {
     i64::from(u32_at(record, 8)) - LOAD_SHIFT
