@@ -91,7 +91,8 @@ fn damage_once(session: &mut Session, slots: u64) -> Step {
     let random = &mut session.random;
     let slot = random.index(slots as usize) * SLOT_BYTES;
     let (field, width) = bucket_field(random);
-    match random.below(14) {
+    match random.below(15) {
+        14 => change_count(session, slot + 31 * PAGE_BYTES),
         0..=2 => {
             let (field, width) = header_field(random);
             change_field(session, Part::Nand, slot + 31 * PAGE_BYTES + field, width)
@@ -117,6 +118,15 @@ fn damage_once(session: &mut Session, slots: u64) -> Step {
     }
 }
 
+/// Another count in a header, with the sections and the fragment length that it gives.
+fn change_count(session: &mut Session, header: usize) -> Step {
+    let count: u16 = session.random.pick(&[1, 63, 64, 65, 256, 257, 319, 320, 321, 384, 385, 65_535]);
+    let sections = count.div_ceil(64);
+    let length = (512 / sections).min(128);
+    session.poke(Part::Nand, header + 4, &count.to_le_bytes())?;
+    session.poke(Part::Nand, header + 7, &[sections as u8, length as u8])
+}
+
 /// Bloom bytes, of the section due next in NOR or of a closed segment.
 fn damage_section(session: &mut Session, slot: usize) -> Step {
     let section = session.field(Field::Count) as usize / 64;
@@ -135,7 +145,8 @@ fn damage_page_due(session: &mut Session, slots: u64) -> Step {
     let slot = (serial % slots) as usize * SLOT_BYTES;
     let lift_page = session.field(Field::Count) as usize / 16 % 20;
     let page = session.random.pick(&[lift_page, lift_page, 20, 21, 29, 30, 31]);
-    let offset = slot + page * PAGE_BYTES + session.random.index(PAGE_BYTES);
+    let byte = session.random.index(PAGE_BYTES);
+    let offset = slot + page * PAGE_BYTES + session.random.pick(&[0, byte, PAGE_BYTES - 1]);
     let value = session.random.pick(&[0, 127, 254]);
     session.poke(Part::Nand, offset, &[value])
 }

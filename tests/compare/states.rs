@@ -27,7 +27,8 @@ pub fn rounds(session: &mut Session) -> Step {
 fn move_to_bound(session: &mut Session, slots: u64) -> Step {
     let (_, field) = session.random.pick(&Field::ALL);
     let present = i128::from(session.field(field));
-    match session.random.below(10) {
+    match session.random.below(11) {
+        10 => move_serials(session),
         0 => any_head_slot(session, slots),
         1 => any_last_load(session),
         2 => change_field(session, Part::State, field.place().0, field.place().1),
@@ -40,6 +41,14 @@ fn move_to_bound(session: &mut Session, slots: u64) -> Step {
             session.set(field, value)
         }
     }
+}
+
+/// Both serials moved up to the last ones, as far apart as they were.
+fn move_serials(session: &mut Session) -> Step {
+    let apart = session.field(Field::Open).wrapping_sub(session.field(Field::Oldest));
+    let open = u64::from(LAST_SERIAL) + 1 - session.random.below(4);
+    session.set(Field::Open, open.into())?;
+    session.set(Field::Oldest, open.wrapping_sub(apart).into())
 }
 
 /// A number at a bound of the field, or one past it.
