@@ -19,21 +19,36 @@ pub fn any(session: &mut Session) -> Result<Habits, crate::judge::Difference> {
         fill_open_segment(session, &mut habits, count)?;
         habits.close(session)?;
     }
-    let count = session.random.pick(&OPEN_COUNTS);
-    fill_open_segment(session, &mut habits, count)?;
+    if session.random.once_in(5) {
+        use_all_buckets(session, &mut habits)?;
+    } else {
+        let count = session.random.pick(&OPEN_COUNTS);
+        fill_open_segment(session, &mut habits, count)?;
+    }
     if session.random.once_in(4) {
         session.call(Call::Drop { slots })?;
     }
     Ok(habits)
 }
 
+/// Appends until the open segment has bucket 35, so that the next new one closes it.
+fn use_all_buckets(session: &mut Session, habits: &mut Habits) -> Step {
+    habits.spread_loads();
+    append_while(session, habits, |session| session.field(Field::Buckets) < 36 && session.field(Field::Count) < 320)
+}
+
 /// Appends until the open segment has `count` lifts, or would be closed for want of buckets.
 fn fill_open_segment(session: &mut Session, habits: &mut Habits, count: u64) -> Step {
     let serial = session.field(Field::Open);
-    while session.field(Field::Open) == serial && session.field(Field::Count) < count {
-        let before = session.field(Field::Next);
+    append_while(session, habits, |session| session.field(Field::Open) == serial && session.field(Field::Count) < count)
+}
+
+fn append_while(session: &mut Session, habits: &mut Habits, wanted: impl Fn(&Session) -> bool) -> Step {
+    while wanted(session) {
+        let next_before = session.field(Field::Next);
         habits.append(session)?;
-        if session.field(Field::Next) == before {
+        let is_refused = session.field(Field::Next) == next_before;
+        if is_refused {
             break;
         }
     }

@@ -91,7 +91,8 @@ fn damage_once(session: &mut Session, slots: u64) -> Step {
     let random = &mut session.random;
     let slot = random.index(slots as usize) * SLOT_BYTES;
     let (field, width) = bucket_field(random);
-    match random.below(15) {
+    match random.below(16) {
+        15 => damage_entry_due(session),
         14 => change_count(session, slot + 31 * PAGE_BYTES),
         0..=2 => {
             let (field, width) = header_field(random);
@@ -125,6 +126,20 @@ fn change_count(session: &mut Session, header: usize) -> Step {
     let length = (512 / sections).min(128);
     session.poke(Part::Nand, header + 4, &count.to_le_bytes())?;
     session.poke(Part::Nand, header + 7, &[sections as u8, length as u8])
+}
+
+/// A byte of the entry after the latest lift's, where the next lift may go.
+fn damage_entry_due(session: &mut Session) -> Step {
+    let latest = (session.field(Field::Count) as u16).wrapping_sub(1).to_le_bytes();
+    let nor = &session.areas().nor;
+    let mut entries = (0..36).flat_map(|bucket| (0..12).map(move |entry| 128 * bucket + 24 + 8 * entry));
+    match entries.find(|entry| nor[entry + 4..entry + 6] == latest) {
+        Some(entry) => {
+            let byte = session.random.index(8);
+            change_field(session, Part::Nor, entry + 8 + byte, 1)
+        }
+        None => Ok(()),
+    }
 }
 
 /// Bloom bytes, of the section due next in NOR or of a closed segment.

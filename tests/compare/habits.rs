@@ -28,13 +28,18 @@ impl Habits {
             slots,
             loads: Loads::any(random),
             times: Times::any(random),
-            close_in: random.pick(&[3, 20, 100, 1000, 4000, 4000]),
-            drop_in: random.pick(&[10, 100, 1000, 4000]),
+            close_in: random.pick(&[5, 60, 1000, 4000, 4000]),
+            drop_in: random.pick(&[10, 200, 4000, 4000]),
             search_in: random.pick(&[4, 12, 40]),
             odd_in: random.pick(&[20, 60]),
             lifts: Vec::new(),
             starts: Vec::new(),
         }
+    }
+
+    /// Loads from now on that need many buckets.
+    pub fn spread_loads(&mut self) {
+        self.loads = Loads::Even { load: 0 };
     }
 
     pub fn one_call(&mut self, session: &mut Session) -> Step {
@@ -52,7 +57,7 @@ impl Habits {
         if random.once_in(self.drop_in) {
             return session.call(Call::Drop { slots: self.slots });
         }
-        if random.once_in(150) {
+        if random.once_in(1000) {
             self.loads = Loads::any(random);
             self.times = Times::any(random);
         }

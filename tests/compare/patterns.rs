@@ -21,6 +21,11 @@ pub enum Loads {
         load: i32,
         towards: i32,
     },
+    /// Runs of one load, then of one beside it, so that predictions fall on the ends of ranges.
+    Runs {
+        load: i32,
+        left: u64,
+    },
     /// By the golden section of the whole range, which needs bucket 36 every other time.
     Even {
         load: i32,
@@ -41,8 +46,12 @@ impl Loads {
             7 => Loads::Between(LEAST_LOAD, -1),
             8 => Loads::Between(0, 10_500),
             9 => Loads::AtLimits,
-            10 => Loads::Between(load.max(LEAST_LOAD + 40) - 40, load),
+            10 => {
+                let width = random.pick(&[3, 7, 40]);
+                Loads::Between(load.max(LEAST_LOAD + width) - width, load)
+            }
             11 => Loads::Closing { load, towards: random.pick(&[LEAST_LOAD, 0, GREATEST_LOAD]) },
+            12 | 13 => Loads::Runs { load, left: 0 },
             _ => Loads::Even { load },
         }
     }
@@ -75,6 +84,14 @@ impl Loads {
                 if (*towards - *load).abs() < 2 {
                     *load = random.load(LEAST_LOAD, GREATEST_LOAD);
                 }
+                *load
+            }
+            Loads::Runs { load, left } => {
+                if *left == 0 {
+                    *left = random.pick(&[2, 13, 14, 30]);
+                    *load = (*load + random.load(-2, 2)).clamp(LEAST_LOAD, GREATEST_LOAD);
+                }
+                *left -= 1;
                 *load
             }
             Loads::Even { load } => {
