@@ -91,17 +91,16 @@ fn damage_once(session: &mut Session, slots: u64) -> Step {
     let random = &mut session.random;
     let slot = random.index(slots as usize) * SLOT_BYTES;
     let (field, width) = bucket_field(random);
-    match random.below(16) {
+    let random_bucket = random.index((buckets + 1).min(36));
+    match random.below(17) {
+        16 => narrow_a_range(session, random_bucket),
         15 => damage_entry_due(session),
         14 => change_count(session, slot + 31 * PAGE_BYTES),
         0..=2 => {
             let (field, width) = header_field(random);
             change_field(session, Part::Nand, slot + 31 * PAGE_BYTES + field, width)
         }
-        3..=5 => {
-            let bucket = random.index((buckets + 1).min(36));
-            change_field(session, Part::Nor, 128 * bucket + field, width)
-        }
+        3..=5 => change_field(session, Part::Nor, 128 * random_bucket + field, width),
         6 | 7 => {
             let bucket = random.pick(&[0, 0, 1, 2, 3, 5, 8, 20]);
             change_field(session, Part::Nand, slot + 20 * PAGE_BYTES + 128 * bucket + field, width)
@@ -126,6 +125,16 @@ fn change_count(session: &mut Session, header: usize) -> Step {
     let length = (512 / sections).min(128);
     session.poke(Part::Nand, header + 4, &count.to_le_bytes())?;
     session.poke(Part::Nand, header + 7, &[sections as u8, length as u8])
+}
+
+/// An open bucket's range made one load wide, or its mid put on the upper end: no damage by itself.
+fn narrow_a_range(session: &mut Session, bucket: usize) -> Step {
+    let bytes = &session.areas().nor[128 * bucket..128 * bucket + 12];
+    let number = |offset: usize| u32::from_le_bytes(bytes[offset..offset + 4].try_into().unwrap());
+    let (x, y) = (number(0), number(4));
+    let (offset, value) =
+        session.random.pick(&[(0, y.wrapping_sub(1)), (4, x.wrapping_add(1)), (4, x.wrapping_add(2)), (8, y)]);
+    session.poke(Part::Nor, 128 * bucket + offset, &value.to_le_bytes())
 }
 
 /// A byte of the entry after the latest lift's, where the next lift may go.
