@@ -124,7 +124,7 @@ impl Habits {
             latest if latest > 0 && random.once_in(2) => self.starts[self.starts.len() - 1 - random.index(latest)],
             _ => self.known_lift(random).0,
         };
-        (time + random.pick(&[0, 1, 1, 1, 2])).saturating_sub(1).min(LAST_TIME)
+        time.saturating_add(random.pick(&[0, 1, 1, 1, 2])).saturating_sub(1).min(LAST_TIME)
     }
 
     fn window(&self, random: &mut Random) -> Window {
