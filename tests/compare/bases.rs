@@ -6,8 +6,8 @@ use script::calls::Call;
 use script::command::Field;
 
 /// Counts at which the next lift fills a bucket, a page, a section or the segment, and some others.
-const OPEN_COUNTS: [u64; 16] = [0, 0, 1, 5, 12, 13, 14, 15, 16, 31, 62, 63, 127, 255, 319, 320];
-const CLOSED_COUNTS: [u64; 8] = [1, 2, 14, 16, 40, 65, 200, 320];
+const OPEN_COUNTS: [u64; 17] = [0, 0, 1, 5, 12, 13, 14, 15, 16, 31, 62, 63, 127, 255, 256, 319, 320];
+const CLOSED_COUNTS: [u64; 9] = [1, 2, 14, 16, 40, 65, 256, 257, 320];
 
 pub fn any(session: &mut Session) -> Result<Habits, crate::judge::Difference> {
     let slots = session.random.pick(&[2, 2, 3, 3, 4, 5, 8]);

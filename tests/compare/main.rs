@@ -125,16 +125,18 @@ fn note_list_under_way(folder: &str, seed: u64, kind: &str) -> Result<(), String
     std::fs::write(format!("{folder}/under_way"), format!("{seed} {kind}\n")).map_err(|error| error.to_string())
 }
 
-/// Writes the script that shows a difference, shortened if it can be, and tells its name.
+/// Writes the script that shows a difference, shortened, and tells its name.
 fn report(seed: u64, kind: &str, what: &str, commands: Vec<Command>, folder: &str) -> String {
-    let is_shown_by_script = shorten::first_difference(&commands).is_some();
-    let commands = if is_shown_by_script { shorten::shortened(commands) } else { commands };
-    let shown = shorten::first_difference(&commands).map_or("", |_| "\nshown by the script: ");
-    let what_is_shown = shorten::first_difference(&commands).map_or(String::new(), |(_, Difference(what))| what);
+    let mut told = format!("DIFFERENCE in {kind}, seed {seed}: {what}\n");
+    let commands = shorten::shortened(commands);
+    told += &match shorten::first_difference(&commands) {
+        Some((_, Difference(what))) => format!("shown by the script: {what}\n"),
+        None => "no line of the script shows it: it leads up to the call with wrong lengths\n".to_string(),
+    };
     let name = format!("{folder}/difference-{kind}-{seed}.script");
-    let written = match std::fs::write(&name, text_of(&commands)) {
+    told += &match std::fs::write(&name, text_of(&commands)) {
         Ok(()) => format!("script of {} lines: {name}", commands.len()),
         Err(error) => format!("{name}: {error}"),
     };
-    format!("DIFFERENCE in {kind}, seed {seed}: {what}{shown}{what_is_shown}\n{written}")
+    told
 }

@@ -15,6 +15,7 @@ pub fn first_difference(commands: &[Command]) -> Option<(usize, Difference)> {
 }
 
 /// Leaves out runs of commands, shorter and shorter ones, as long as some difference is left.
+/// Commands that show none stay as they are.
 pub fn shortened(mut commands: Vec<Command>) -> Vec<Command> {
     let begun = Instant::now();
     let mut run = commands.len() / 2;
