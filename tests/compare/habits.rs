@@ -2,7 +2,7 @@
 use crate::judge::Step;
 use crate::patterns::{Loads, Times};
 use crate::random::Random;
-use crate::session::Session;
+use crate::trial::Trial;
 use model::limits::{GREATEST_LOAD, LAST_TIME, LEAST_LOAD};
 use script::calls::{Call, Window, ROW_BYTES};
 use script::command::Field;
@@ -42,72 +42,72 @@ impl Habits {
         self.loads = Loads::Even { load: 0 };
     }
 
-    pub fn one_call(&mut self, session: &mut Session) -> Step {
-        let random = &mut session.random;
+    pub fn one_call(&mut self, trial: &mut Trial) -> Step {
+        let random = &mut trial.random;
         if random.once_in(self.odd_in) {
-            let call = self.odd_call(session);
-            return session.call(call);
+            let call = self.odd_call(trial);
+            return trial.call(call);
         }
         if random.once_in(self.search_in) {
-            return self.ask(session);
+            return self.ask(trial);
         }
         if random.once_in(self.close_in) {
-            return session.call(Call::Close { slots: self.slots });
+            return trial.call(Call::Close { slots: self.slots });
         }
         if random.once_in(self.drop_in) {
-            return session.call(Call::Drop { slots: self.slots });
+            return trial.call(Call::Drop { slots: self.slots });
         }
         if random.once_in(1000) {
             self.loads = Loads::any(random);
             self.times = Times::any(random);
         }
-        self.append(session)
+        self.append(trial)
     }
 
-    pub fn append(&mut self, session: &mut Session) -> Step {
-        let next_time = session.field(Field::Next);
-        let time = self.times.after(next_time, &mut session.random);
-        let load = self.loads.next(&mut session.random);
-        let note = session.random.note();
-        session.call(Call::Append { slots: self.slots, time, load, note })?;
+    pub fn append(&mut self, trial: &mut Trial) -> Step {
+        let next_time = trial.field(Field::Next);
+        let time = self.times.after(next_time, &mut trial.random);
+        let load = self.loads.next(&mut trial.random);
+        let note = trial.random.note();
+        trial.call(Call::Append { slots: self.slots, time, load, note })?;
         self.lifts.push((time, load));
-        if session.field(Field::Count) == 1 {
+        if trial.field(Field::Count) == 1 {
             self.starts.push(time);
         }
         Ok(())
     }
 
-    pub fn close(&mut self, session: &mut Session) -> Step {
-        session.call(Call::Close { slots: self.slots })
+    pub fn close(&mut self, trial: &mut Trial) -> Step {
+        trial.call(Call::Close { slots: self.slots })
     }
 
     /// A search, now and then a tally or a plate.
-    pub fn ask(&mut self, session: &mut Session) -> Step {
+    pub fn ask(&mut self, trial: &mut Trial) -> Step {
         let slots = self.slots;
-        let window = self.window(&mut session.random);
-        match session.random.below(8) {
-            0 => session.call(Call::Tally { slots, t1: window.t1, t2: window.t2 }),
+        let window = self.window(&mut trial.random);
+        match trial.random.below(8) {
+            0 => trial.call(Call::Tally { slots, t1: window.t1, t2: window.t2 }),
             1 => {
-                let load = plate_load(&mut session.random);
-                session.call(Call::Plate { load })
+                let load = plate_load(&mut trial.random);
+                trial.call(Call::Plate { load })
             }
             _ => {
-                let found = session.rows_found(slots, &window) * ROW_BYTES;
-                let area_bytes = match session.random.below(6) {
+                let found = trial.rows_found(slots, &window) * ROW_BYTES;
+                let area_bytes = match trial.random.below(6) {
                     0 => found,
                     1 => found.saturating_sub(1),
-                    2 => session.random.index(found + 1),
-                    _ => found + session.random.index(200),
+                    2 => trial.random.index(found + 1),
+                    _ => found + trial.random.index(200),
                 };
-                session.call(Call::Search { slots, window, area_bytes })
+                trial.call(Call::Search { slots, window, area_bytes })
             }
         }
     }
 
-    pub fn search_all(&mut self, session: &mut Session) -> Step {
+    pub fn search_all(&mut self, trial: &mut Trial) -> Step {
         let window = Window { t1: 0, t2: LAST_TIME, k1: LEAST_LOAD, k2: GREATEST_LOAD };
-        let area_bytes = (session.rows_found(self.slots, &window) + 1) * ROW_BYTES;
-        session.call(Call::Search { slots: self.slots, window, area_bytes })
+        let area_bytes = (trial.rows_found(self.slots, &window) + 1) * ROW_BYTES;
+        trial.call(Call::Search { slots: self.slots, window, area_bytes })
     }
 
     fn known_lift(&self, random: &mut Random) -> (u64, i32) {
@@ -149,9 +149,9 @@ impl Habits {
     }
 
     /// A call that grounds 1 and 4 to 9 are against, or that looks like one.
-    fn odd_call(&mut self, session: &mut Session) -> Call {
-        let next_time = session.field(Field::Next);
-        let random = &mut session.random;
+    fn odd_call(&mut self, trial: &mut Trial) -> Call {
+        let next_time = trial.field(Field::Next);
+        let random = &mut trial.random;
         let slots = if random.once_in(4) { odd_slots(self.slots, random) } else { self.slots };
         let time = match random.below(3) {
             0 => next_time.saturating_sub(1 + random.below(3)),

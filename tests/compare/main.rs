@@ -11,20 +11,20 @@ mod mids;
 mod page_rules;
 mod patterns;
 mod random;
-mod session;
 mod shorten;
 mod states;
+mod trial;
 
 use judge::{Difference, Judge, Step};
 use script::command::Command;
 use script::parse::parse;
-use session::Session;
 use std::process::ExitCode;
 use std::time::{Duration, Instant};
+use trial::Trial;
 
 const USAGE: &str = "compare random SECONDS SEED FOLDER | compare fixed SCRIPT.. | compare write SEED KIND";
 
-type Kind = (&'static str, fn(&mut Session) -> Step);
+type Kind = (&'static str, fn(&mut Trial) -> Step);
 const LARGE: Kind = ("large", lists::on_largest_chip);
 const KINDS: [Kind; 5] = [
     ("list", lists::short_or_long),
@@ -73,9 +73,9 @@ fn text_of(commands: &[Command]) -> String {
 /// Prints the script of a seed, made with the model alone.
 fn write_script(seed: u64, (_, generate): &Kind) -> Result<(), String> {
     let mut judge = Judge::of_model_alone();
-    let mut session = Session::new(&mut judge, seed);
-    generate(&mut session).map_err(|Difference(what)| what)?;
-    print!("{}", text_of(&session.commands));
+    let mut trial = Trial::new(&mut judge, seed);
+    generate(&mut trial).map_err(|Difference(what)| what)?;
+    print!("{}", text_of(&trial.commands));
     Ok(())
 }
 
@@ -107,9 +107,9 @@ fn random_run(seconds: u64, first_seed: u64, folder: &str) -> Result<(), String>
         let seed = first_seed.wrapping_add(lists);
         let (name, generate) = kind_at(lists);
         note_list_under_way(folder, seed, name)?;
-        let mut session = Session::new(&mut judge, seed);
-        if let Err(Difference(what)) = generate(&mut session) {
-            return Err(report(seed, name, &what, session.commands, folder));
+        let mut trial = Trial::new(&mut judge, seed);
+        if let Err(Difference(what)) = generate(&mut trial) {
+            return Err(report(seed, name, &what, trial.commands, folder));
         }
         lists += 1;
     }

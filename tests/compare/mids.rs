@@ -1,7 +1,7 @@
 //! Searches whose range ends at the mid of a bucket, one of whose children is damaged.
 use crate::damage::change_field;
 use crate::judge::Step;
-use crate::session::Session;
+use crate::trial::Trial;
 use model::limits::{GREATEST_LOAD, LAST_TIME, LEAST_LOAD};
 use script::areas::{PAGE_BYTES, SLOT_BYTES};
 use script::calls::{Call, Window};
@@ -32,19 +32,19 @@ fn branches(tree: &[u8]) -> Vec<Branch> {
 }
 
 /// Damages the child of some branch, then searches a range that just takes it in or just leaves it out.
-pub fn search_beside_damage(session: &mut Session, slots: u64) -> Step {
-    let slot = session.random.index(slots as usize);
+pub fn search_beside_damage(trial: &mut Trial, slots: u64) -> Step {
+    let slot = trial.random.index(slots as usize);
     let in_slot = slot * SLOT_BYTES + 20 * PAGE_BYTES;
-    let (part, tree_at) = session.random.pick(&[(Part::Nor, 0), (Part::Nand, in_slot)]);
-    let branches = branches(&session.areas().part(part)[tree_at..tree_at + BUCKETS * BUCKET_BYTES]);
+    let (part, tree_at) = trial.random.pick(&[(Part::Nor, 0), (Part::Nand, in_slot)]);
+    let branches = branches(&trial.areas().part(part)[tree_at..tree_at + BUCKETS * BUCKET_BYTES]);
     if branches.is_empty() {
         return Ok(());
     }
-    let branch = &branches[session.random.index(branches.len())];
-    let field = session.random.pick(&[0, 4]);
-    change_field(session, part, tree_at + branch.child * BUCKET_BYTES + field, 4)?;
-    let end = (branch.mid + session.random.pick(&[0, 1])).clamp(LEAST_LOAD, GREATEST_LOAD);
+    let branch = &branches[trial.random.index(branches.len())];
+    let field = trial.random.pick(&[0, 4]);
+    change_field(trial, part, tree_at + branch.child * BUCKET_BYTES + field, 4)?;
+    let end = (branch.mid + trial.random.pick(&[0, 1])).clamp(LEAST_LOAD, GREATEST_LOAD);
     let (k1, k2) = if branch.is_left { (end, GREATEST_LOAD) } else { (LEAST_LOAD, end) };
     let window = Window { t1: 0, t2: LAST_TIME, k1, k2 };
-    session.call(Call::Search { slots, window, area_bytes: 32 * 320 })
+    trial.call(Call::Search { slots, window, area_bytes: 32 * 320 })
 }

@@ -8,16 +8,16 @@ use script::command::{Command, Field, Fill, Part};
 
 pub const NOR_BYTES: usize = 6_144;
 
-pub struct Session<'a> {
+pub struct Trial<'a> {
     pub judge: &'a mut Judge,
     pub random: Random,
     pub commands: Vec<Command>,
 }
 
-impl<'a> Session<'a> {
-    pub fn new(judge: &'a mut Judge, seed: u64) -> Session<'a> {
+impl<'a> Trial<'a> {
+    pub fn new(judge: &'a mut Judge, seed: u64) -> Trial<'a> {
         judge.begin_anew();
-        Session { judge, random: Random::new(seed), commands: Vec::new() }
+        Trial { judge, random: Random::new(seed), commands: Vec::new() }
     }
 
     pub fn run(&mut self, command: Command) -> Step {
