@@ -4,7 +4,7 @@ use crate::habits::Habits;
 use crate::judge::Step;
 use crate::mids;
 use crate::random::Random;
-use crate::trial::{Trial, NOR_BYTES};
+use crate::trial::{Trial, BUCKETS, BUCKET_BYTES, HEADER, NOR_BYTES, SECTIONS, TREE};
 use model::limits::LAST_TIME;
 use script::areas::{PAGE_BYTES, SLOT_BYTES};
 use script::calls::Call;
@@ -91,19 +91,16 @@ fn damage_once(trial: &mut Trial, slots: u64) -> Step {
     let random = &mut trial.random;
     let slot = random.index(slots as usize) * SLOT_BYTES;
     let (field, width) = bucket_field(random);
-    let random_bucket = random.index((buckets + 1).min(36));
+    let open_bucket = random.index((buckets + 1).min(BUCKETS));
     match random.below(17) {
-        16 => narrow_a_range(trial, random_bucket),
-        15 => damage_entry_due(trial),
-        14 => change_count(trial, slot + 31 * PAGE_BYTES),
         0..=2 => {
             let (field, width) = header_field(random);
-            change_field(trial, Part::Nand, slot + 31 * PAGE_BYTES + field, width)
+            change_field(trial, Part::Nand, slot + HEADER + field, width)
         }
-        3..=5 => change_field(trial, Part::Nor, 128 * random_bucket + field, width),
+        3..=5 => change_field(trial, Part::Nor, BUCKET_BYTES * open_bucket + field, width),
         6 | 7 => {
             let bucket = random.pick(&[0, 0, 1, 2, 3, 5, 8, 20]);
-            change_field(trial, Part::Nand, slot + 20 * PAGE_BYTES + 128 * bucket + field, width)
+            change_field(trial, Part::Nand, slot + TREE + BUCKET_BYTES * bucket + field, width)
         }
         8 => {
             let record = 32 * random.index(320);
@@ -114,6 +111,9 @@ fn damage_once(trial: &mut Trial, slots: u64) -> Step {
         10 => damage_page_due(trial, slots),
         11 => damage_buffers(trial),
         12 => damage_head(trial),
+        13 => change_count(trial, slot + HEADER),
+        14 => damage_entry_due(trial),
+        15 => narrow_a_range(trial, open_bucket),
         _ => damage_anywhere(trial),
     }
 }
@@ -129,19 +129,20 @@ fn change_count(trial: &mut Trial, header: usize) -> Step {
 
 /// An open bucket's range made one load wide, or its mid put on the upper end: no damage by itself.
 fn narrow_a_range(trial: &mut Trial, bucket: usize) -> Step {
-    let bytes = &trial.areas().nor[128 * bucket..128 * bucket + 12];
+    let offset = BUCKET_BYTES * bucket;
+    let bytes = &trial.areas().nor[offset..offset + 12];
     let number = |offset: usize| u32::from_le_bytes(bytes[offset..offset + 4].try_into().unwrap());
     let (x, y) = (number(0), number(4));
-    let (offset, value) =
+    let (field, value) =
         trial.random.pick(&[(0, y.wrapping_sub(1)), (4, x.wrapping_add(1)), (4, x.wrapping_add(2)), (8, y)]);
-    trial.poke(Part::Nor, 128 * bucket + offset, &value.to_le_bytes())
+    trial.poke(Part::Nor, offset + field, &value.to_le_bytes())
 }
 
 /// A byte of the entry after the latest lift's, where the next lift may go.
 fn damage_entry_due(trial: &mut Trial) -> Step {
     let latest = (trial.field(Field::Count) as u16).wrapping_sub(1).to_le_bytes();
     let nor = &trial.areas().nor;
-    let mut entries = (0..36).flat_map(|bucket| (0..12).map(move |entry| 128 * bucket + 24 + 8 * entry));
+    let mut entries = (0..BUCKETS).flat_map(|bucket| (0..12).map(move |entry| BUCKET_BYTES * bucket + 24 + 8 * entry));
     match entries.find(|entry| nor[entry + 4..entry + 6] == latest) {
         Some(entry) => {
             let byte = trial.random.index(8);
@@ -156,7 +157,7 @@ fn damage_section(trial: &mut Trial, slot: usize) -> Step {
     let section = trial.field(Field::Count) as usize / 64;
     let byte = trial.random.index(128);
     if trial.random.once_in(2) {
-        return change_field(trial, Part::Nor, 4608 + 128 * section + byte, 1);
+        return change_field(trial, Part::Nor, SECTIONS + 128 * section + byte, 1);
     }
     let page = trial.random.pick(&[29, 30]);
     let offset = slot + page * PAGE_BYTES + trial.random.index(PAGE_BYTES);

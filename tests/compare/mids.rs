@@ -1,14 +1,11 @@
 //! Searches whose range ends at the mid of a bucket, one of whose children is damaged.
 use crate::damage::change_field;
 use crate::judge::Step;
-use crate::trial::Trial;
+use crate::trial::{Trial, BUCKETS, BUCKET_BYTES, TREE};
 use model::limits::{GREATEST_LOAD, LAST_TIME, LEAST_LOAD};
-use script::areas::{PAGE_BYTES, SLOT_BYTES};
+use script::areas::SLOT_BYTES;
 use script::calls::{Call, Window};
 use script::command::Part;
-
-const BUCKETS: usize = 36;
-const BUCKET_BYTES: usize = 128;
 
 /// A split bucket's mid and one of its children, as they stand in a tree's bytes.
 struct Branch {
@@ -34,7 +31,7 @@ fn branches(tree: &[u8]) -> Vec<Branch> {
 /// Damages the child of some branch, then searches a range that just takes it in or just leaves it out.
 pub fn search_beside_damage(trial: &mut Trial, slots: u64) -> Step {
     let slot = trial.random.index(slots as usize);
-    let in_slot = slot * SLOT_BYTES + 20 * PAGE_BYTES;
+    let in_slot = slot * SLOT_BYTES + TREE;
     let (part, tree_at) = trial.random.pick(&[(Part::Nor, 0), (Part::Nand, in_slot)]);
     let branches = branches(&trial.areas().part(part)[tree_at..tree_at + BUCKETS * BUCKET_BYTES]);
     if branches.is_empty() {

@@ -28,11 +28,11 @@ fn move_to_bound(trial: &mut Trial, slots: u64) -> Step {
     let (_, field) = trial.random.pick(&Field::ALL);
     let present = i128::from(trial.field(field));
     match trial.random.below(11) {
-        10 => move_serials(trial),
         0 => any_head_slot(trial, slots),
         1 => any_last_load(trial),
-        2 => change_field(trial, Part::State, field.place().0, field.place().1),
-        3 => {
+        2 => move_serials(trial),
+        3 => change_field(trial, Part::State, field.place().0, field.place().1),
+        4 => {
             let step = trial.random.pick(&[-1, 1]);
             trial.set(field, present + step)
         }

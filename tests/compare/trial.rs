@@ -2,11 +2,18 @@
 use crate::judge::{Judge, Step};
 use crate::random::Random;
 use model::bytes::found;
-use script::areas::{Areas, SLOT_BYTES};
+use script::areas::{Areas, PAGE_BYTES, SLOT_BYTES};
 use script::calls::{Call, Window};
 use script::command::{Command, Field, Fill, Part};
 
 pub const NOR_BYTES: usize = 6_144;
+pub const BUCKET_BYTES: usize = 128;
+pub const BUCKETS: usize = 36;
+/// Where the Bloom sections begin in NOR.
+pub const SECTIONS: usize = 4_608;
+/// Where the tree and the header begin in a slot.
+pub const TREE: usize = 20 * PAGE_BYTES;
+pub const HEADER: usize = 31 * PAGE_BYTES;
 
 pub struct Trial<'a> {
     pub judge: &'a mut Judge,
