@@ -1,0 +1,197 @@
+//! Chooses the calls of a list: what a console would ask, and what it should not.
+use crate::judge::Step;
+use crate::patterns::{Loads, Times};
+use crate::random::Random;
+use crate::trial::Trial;
+use model::limits::{GREATEST_LOAD, LAST_TIME, LEAST_LOAD};
+use script::calls::{Call, Window, ROW_BYTES};
+use script::command::Field;
+
+pub struct Habits {
+    pub slots: u64,
+    loads: Loads,
+    times: Times,
+    /// One call in so many is a close, a drop, a search, of no use.
+    close_in: u64,
+    drop_in: u64,
+    search_in: u64,
+    odd_in: u64,
+    /// Times and loads that were handed in; the store may have lost them since.
+    lifts: Vec<(u64, i32)>,
+    /// Times at which a segment began.
+    starts: Vec<u64>,
+}
+
+impl Habits {
+    pub fn any(slots: u64, random: &mut Random) -> Habits {
+        Habits {
+            slots,
+            loads: Loads::any(random),
+            times: Times::any(random),
+            close_in: random.pick(&[5, 60, 1000, 4000, 4000]),
+            drop_in: random.pick(&[10, 200, 4000, 4000]),
+            search_in: random.pick(&[4, 12, 40]),
+            odd_in: random.pick(&[20, 60]),
+            lifts: Vec::new(),
+            starts: Vec::new(),
+        }
+    }
+
+    /// Loads from now on that need many buckets.
+    pub fn spread_loads(&mut self) {
+        self.loads = Loads::Even { load: 0 };
+    }
+
+    pub fn one_call(&mut self, trial: &mut Trial) -> Step {
+        let random = &mut trial.random;
+        if random.once_in(self.odd_in) {
+            let call = self.odd_call(trial);
+            return trial.call(call);
+        }
+        if random.once_in(self.search_in) {
+            return self.ask(trial);
+        }
+        if random.once_in(self.close_in) {
+            return trial.call(Call::Close { slots: self.slots });
+        }
+        if random.once_in(self.drop_in) {
+            return trial.call(Call::Drop { slots: self.slots });
+        }
+        if random.once_in(1000) {
+            self.loads = Loads::any(random);
+            self.times = Times::any(random);
+        }
+        self.append(trial)
+    }
+
+    pub fn append(&mut self, trial: &mut Trial) -> Step {
+        let next_time = trial.field(Field::Next);
+        let time = self.times.after(next_time, &mut trial.random);
+        let load = self.loads.next(&mut trial.random);
+        let note = trial.random.note();
+        trial.call(Call::Append { slots: self.slots, time, load, note })?;
+        self.lifts.push((time, load));
+        if trial.field(Field::Count) == 1 {
+            self.starts.push(time);
+        }
+        Ok(())
+    }
+
+    pub fn close(&mut self, trial: &mut Trial) -> Step {
+        trial.call(Call::Close { slots: self.slots })
+    }
+
+    /// A search, now and then a tally or a plate.
+    pub fn ask(&mut self, trial: &mut Trial) -> Step {
+        let slots = self.slots;
+        let window = self.window(&mut trial.random);
+        match trial.random.below(8) {
+            0 => trial.call(Call::Tally { slots, t1: window.t1, t2: window.t2 }),
+            1 => {
+                let load = plate_load(&mut trial.random);
+                trial.call(Call::Plate { load })
+            }
+            _ => {
+                let found = trial.rows_found(slots, &window) * ROW_BYTES;
+                let area_bytes = match trial.random.below(6) {
+                    0 => found,
+                    1 => found.saturating_sub(1),
+                    2 => trial.random.index(found + 1),
+                    _ => found + trial.random.index(200),
+                };
+                trial.call(Call::Search { slots, window, area_bytes })
+            }
+        }
+    }
+
+    pub fn search_all(&mut self, trial: &mut Trial) -> Step {
+        let window = Window { t1: 0, t2: LAST_TIME, k1: LEAST_LOAD, k2: GREATEST_LOAD };
+        let area_bytes = (trial.rows_found(self.slots, &window) + 1) * ROW_BYTES;
+        trial.call(Call::Search { slots: self.slots, window, area_bytes })
+    }
+
+    fn known_lift(&self, random: &mut Random) -> (u64, i32) {
+        if self.lifts.is_empty() {
+            return (random.below(10), random.load(-10, 10));
+        }
+        let latest = self.lifts.len().min(1 + 320 * self.slots as usize);
+        self.lifts[self.lifts.len() - 1 - random.index(latest)]
+    }
+
+    /// The time of a lift, the start of a segment, or a millisecond beside it.
+    fn known_time(&self, random: &mut Random) -> u64 {
+        let time = match self.starts.len().min(self.slots as usize + 1) {
+            latest if latest > 0 && random.once_in(2) => self.starts[self.starts.len() - 1 - random.index(latest)],
+            _ => self.known_lift(random).0,
+        };
+        time.saturating_add(random.pick(&[0, 1, 1, 1, 2])).saturating_sub(1).min(LAST_TIME)
+    }
+
+    fn window(&self, random: &mut Random) -> Window {
+        let (a, b) = (self.known_time(random), self.known_time(random));
+        let (t1, t2) = match random.below(6) {
+            0 | 1 => (0, LAST_TIME),
+            2 => (a, a),
+            3 => (a, (a + 86_399_999).min(LAST_TIME)),
+            _ => (a.min(b), a.max(b)),
+        };
+        let (k, l) = (self.known_lift(random).1, self.known_lift(random).1);
+        let (k1, k2) = match random.below(6) {
+            0 | 1 => (k, k),
+            2 => {
+                let absent = (k + random.pick(&[-1, 1])).clamp(LEAST_LOAD, GREATEST_LOAD);
+                (absent, absent)
+            }
+            3 => (LEAST_LOAD, GREATEST_LOAD),
+            _ => (k.min(l), k.max(l)),
+        };
+        Window { t1, t2, k1, k2 }
+    }
+
+    /// A call that grounds 1 and 4 to 9 are against, or that looks like one.
+    fn odd_call(&mut self, trial: &mut Trial) -> Call {
+        let next_time = trial.field(Field::Next);
+        let random = &mut trial.random;
+        let slots = if random.once_in(4) { odd_slots(self.slots, random) } else { self.slots };
+        let time = match random.below(3) {
+            0 => next_time.saturating_sub(1 + random.below(3)),
+            1 => random.pick(&[LAST_TIME, LAST_TIME + 1, u64::MAX]),
+            _ => next_time.saturating_add(1),
+        };
+        let load = if random.once_in(3) { odd_load(random) } else { self.known_lift(random).1 };
+        let mut window = self.window(random);
+        match random.below(6) {
+            0 => std::mem::swap(&mut window.t1, &mut window.t2),
+            1 => std::mem::swap(&mut window.k1, &mut window.k2),
+            2 => window.t1 = time,
+            3 => window.t2 = time,
+            4 => window.k1 = load,
+            _ => window.k2 = load,
+        }
+        match random.below(8) {
+            0 => Call::Close { slots },
+            1 => Call::Drop { slots },
+            2 | 3 => Call::Append { slots, time, load, note: random.note() },
+            4 => Call::Tally { slots, t1: window.t1, t2: window.t2 },
+            5 => Call::Plate { load },
+            _ => Call::Search { slots, window, area_bytes: random.index(2000) },
+        }
+    }
+}
+
+pub fn odd_slots(slots: u64, random: &mut Random) -> u64 {
+    let choices = [0, 1, slots - 1, slots + 1, 2 * slots, 4096, 4097, 1 << 32 | slots, 1 << 50, u64::MAX];
+    random.pick(&choices)
+}
+
+fn odd_load(random: &mut Random) -> i32 {
+    random.pick(&[LEAST_LOAD - 1, LEAST_LOAD, GREATEST_LOAD, GREATEST_LOAD + 1, i32::MIN, i32::MAX])
+}
+
+/// Near the end of a plate's band, or past the limits.
+fn plate_load(random: &mut Random) -> i32 {
+    if random.once_in(10) {
+        return odd_load(random);
+    }
+    500 * random.load(-2, 22) + 250 + random.load(-1, 1)
+}

@@ -1,0 +1,142 @@
+//! Holds the built library to the model: random lists and damaged stores, or one script.
+mod bases;
+mod damage;
+mod edges;
+mod figures;
+mod habits;
+mod judge;
+mod lengths;
+mod lists;
+mod mids;
+mod page_rules;
+mod patterns;
+mod random;
+mod shorten;
+mod states;
+mod trial;
+
+use judge::{Difference, Judge, Step};
+use script::command::Command;
+use script::parse::parse;
+use std::process::ExitCode;
+use std::time::{Duration, Instant};
+use trial::Trial;
+
+const USAGE: &str = "compare random SECONDS SEED FOLDER | compare fixed SCRIPT.. | compare write SEED KIND";
+
+type Kind = (&'static str, fn(&mut Trial) -> Step);
+const LARGE: Kind = ("large", lists::on_largest_chip);
+const KINDS: [Kind; 5] = [
+    ("list", lists::short_or_long),
+    ("damage", damage::rounds),
+    ("state", states::rounds),
+    ("edge", edges::rounds),
+    LARGE,
+];
+
+/// The kind of the list at a place in the run. The largest chip is slow, so it comes seldom.
+fn kind_at(place: u64) -> Kind {
+    match place {
+        place if place % 1000 == 100 => LARGE,
+        place => KINDS[[0, 1, 0, 1, 2, 0, 1, 3][(place % 8) as usize]],
+    }
+}
+
+fn main() -> ExitCode {
+    let words: Vec<String> = std::env::args().skip(1).collect();
+    let words: Vec<&str> = words.iter().map(String::as_str).collect();
+    let done = match words[..] {
+        ["random", seconds, seed, folder] => match (seconds.parse(), seed.parse()) {
+            (Ok(seconds), Ok(seed)) => random_run(seconds, seed, folder),
+            _ => Err(USAGE.to_string()),
+        },
+        ["fixed", ref scripts @ ..] => fixed_run(scripts),
+        ["write", seed, kind] => match (seed.parse(), KINDS.iter().find(|(name, _)| *name == kind)) {
+            (Ok(seed), Some(kind)) => write_script(seed, kind),
+            _ => Err(USAGE.to_string()),
+        },
+        _ => Err(USAGE.to_string()),
+    };
+    match done {
+        Ok(()) => ExitCode::SUCCESS,
+        Err(problem) => {
+            println!("{problem}");
+            ExitCode::FAILURE
+        }
+    }
+}
+
+fn text_of(commands: &[Command]) -> String {
+    commands.iter().map(|command| format!("{command}\n")).collect()
+}
+
+/// Prints the script of a seed, made with the model alone.
+fn write_script(seed: u64, (_, generate): &Kind) -> Result<(), String> {
+    let mut judge = Judge::of_model_alone();
+    let mut trial = Trial::new(&mut judge, seed);
+    generate(&mut trial).map_err(|Difference(what)| what)?;
+    print!("{}", text_of(&trial.commands));
+    Ok(())
+}
+
+/// Runs stored scripts; together they must meet every number of every call.
+fn fixed_run(scripts: &[&str]) -> Result<(), String> {
+    let mut judge = Judge::of_library();
+    for script in scripts {
+        judge.begin_anew();
+        let text = std::fs::read_to_string(script).map_err(|error| format!("{script}: {error}"))?;
+        for (index, line) in text.lines().enumerate() {
+            let told = |what: String| format!("{script}, line {}: {what}", index + 1);
+            let Some(command) = parse(line).map_err(told)? else { continue };
+            judge.perform(&command).map_err(|Difference(what)| told(what))?;
+        }
+    }
+    judge.figures.print();
+    let missing = judge.figures.missing();
+    if !missing.is_empty() {
+        return Err(format!("the scripts never meet: {}", missing.join(", ")));
+    }
+    Ok(())
+}
+
+fn random_run(seconds: u64, first_seed: u64, folder: &str) -> Result<(), String> {
+    let begun = Instant::now();
+    let mut judge = Judge::of_library();
+    let mut lists = 0;
+    while begun.elapsed() < Duration::from_secs(seconds) {
+        let seed = first_seed.wrapping_add(lists);
+        let (name, generate) = kind_at(lists);
+        note_list_under_way(folder, seed, name)?;
+        let mut trial = Trial::new(&mut judge, seed);
+        if let Err(Difference(what)) = generate(&mut trial) {
+            return Err(report(seed, name, &what, trial.commands, folder));
+        }
+        lists += 1;
+    }
+    judge.figures.print();
+    let last_seed = first_seed.wrapping_add(lists).wrapping_sub(1);
+    println!("seeds {first_seed} to {last_seed}, {:.1} seconds", begun.elapsed().as_secs_f64());
+    println!("{} calls in {lists} scripts, no difference", judge.figures.total_calls());
+    Ok(())
+}
+
+/// If the library stops the whole program, the file tells which list it was.
+fn note_list_under_way(folder: &str, seed: u64, kind: &str) -> Result<(), String> {
+    std::fs::write(format!("{folder}/under_way"), format!("{seed} {kind}\n")).map_err(|error| error.to_string())
+}
+
+/// Writes the script that shows a difference, shortened, and tells its name.
+fn report(seed: u64, kind: &str, what: &str, commands: Vec<Command>, folder: &str) -> String {
+    let mut told = format!("DIFFERENCE in {kind}, seed {seed}: {what}\n");
+    let commands = shorten::shortened(commands);
+    told += &match shorten::first_difference(&commands) {
+        Some((_, Difference(what))) => format!("shown by the script: {what}\n"),
+        None => "no line of the script shows it: it leads up to the call with wrong lengths\n".to_string(),
+    };
+    let name = format!("{folder}/difference-{kind}-{seed}.script");
+    told += &match std::fs::write(&name, text_of(&commands)) {
+        Ok(()) => format!("script of {} lines: {name}", commands.len()),
+        Err(error) => format!("{name}: {error}"),
+    };
+    told
+}

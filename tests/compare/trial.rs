@@ -1,0 +1,77 @@
+//! A script under way: every command goes to the judge and into the record.
+use crate::judge::{Judge, Step};
+use crate::random::Random;
+use model::bytes::found;
+use script::areas::{Areas, PAGE_BYTES, SLOT_BYTES};
+use script::calls::{Call, Window};
+use script::command::{Command, Field, Fill, Part};
+
+pub const NOR_BYTES: usize = 6_144;
+pub const BUCKET_BYTES: usize = 128;
+pub const BUCKETS: usize = 36;
+/// Where the Bloom sections begin in NOR.
+pub const SECTIONS: usize = 4_608;
+/// Where the tree and the header begin in a slot.
+pub const TREE: usize = 20 * PAGE_BYTES;
+pub const HEADER: usize = 31 * PAGE_BYTES;
+
+pub struct Trial<'a> {
+    pub judge: &'a mut Judge,
+    pub random: Random,
+    pub commands: Vec<Command>,
+}
+
+impl<'a> Trial<'a> {
+    pub fn new(judge: &'a mut Judge, seed: u64) -> Trial<'a> {
+        judge.begin_anew();
+        Trial { judge, random: Random::new(seed), commands: Vec::new() }
+    }
+
+    pub fn run(&mut self, command: Command) -> Step {
+        self.commands.push(command);
+        self.judge.perform(self.commands.last().unwrap())
+    }
+
+    pub fn call(&mut self, call: Call) -> Step {
+        self.run(Command::Call(call))
+    }
+
+    /// Chips of the right lengths that hold anything.
+    pub fn lend_chips(&mut self, slots: u64) -> Step {
+        let fill = match self.random.below(3) {
+            0 => Fill::Byte(self.random.pick(&[0, 255, 170])),
+            _ => Fill::Mixed(self.random.below(1000)),
+        };
+        self.run(Command::Areas { nand_bytes: slots as usize * SLOT_BYTES, nor_bytes: NOR_BYTES, fill })
+    }
+
+    pub fn poke(&mut self, part: Part, offset: usize, bytes: &[u8]) -> Step {
+        for (offset, value) in (offset..).zip(bytes) {
+            self.run(Command::Poke { part, offset, value: *value })?;
+        }
+        Ok(())
+    }
+
+    pub fn set(&mut self, field: Field, value: i128) -> Step {
+        self.run(Command::SetField { field, value })
+    }
+
+    pub fn areas(&self) -> &Areas {
+        self.judge.expected()
+    }
+
+    pub fn field(&self, field: Field) -> u64 {
+        let (offset, width) = field.place();
+        let mut bytes = [0; 8];
+        bytes[..width].copy_from_slice(&self.areas().state[offset..offset + width]);
+        u64::from_le_bytes(bytes)
+    }
+
+    /// How many rows a search would find, 0 if it would be refused.
+    pub fn rows_found(&self, slots: u64, window: &Window) -> usize {
+        match self.judge.log() {
+            Some(log) => log.found(window).map_or(0, |found| found.len()),
+            None => found(self.areas(), slots, window).map_or(0, |found| found.len()),
+        }
+    }
+}

@@ -1,0 +1,43 @@
+//! The limits of document 01 and the numbers of its grounds.
+pub const SLOTS: std::ops::RangeInclusive<u64> = 2..=4096;
+pub const LAST_TIME: u64 = 999_999_999_999_999;
+pub const LEAST_LOAD: i32 = -50_000;
+pub const GREATEST_LOAD: i32 = 100_000;
+/// Stored load = load + this; also the lower end of the root range, below zero.
+pub const LOAD_SHIFT: i64 = 50_001;
+pub const LAST_SERIAL: u32 = 999_999_999;
+pub const SEGMENT_LIFTS: usize = 320;
+pub const SEGMENT_BUCKETS: usize = 36;
+pub const BUCKET_ENTRIES: usize = 13;
+pub const ROW_BYTES: usize = 32;
+
+pub const SLOTS_OR_NAND_LENGTH: u8 = 1;
+pub const NOR_LENGTH: u8 = 2;
+pub const STATE_BOUND: u8 = 3;
+pub const TIME_LIMIT: u8 = 4;
+pub const LOAD_LIMIT: u8 = 5;
+pub const BACKWARD_RANGE: u8 = 6;
+pub const TIME_BELOW_NEXT: u8 = 7;
+pub const LAST_SERIALS: u8 = 8;
+pub const NOTHING_TO_DO: u8 = 9;
+pub const DAMAGE: u8 = 10;
+pub const PAGE_NOT_ERASED: u8 = 11;
+pub const TOO_MANY_ROWS: u8 = 12;
+
+/// What a call gives, or the number of the first ground against it.
+pub type Outcome<T> = Result<T, u8>;
+
+pub fn refuse_if(ground_holds: bool, number: u8) -> Outcome<()> {
+    if ground_holds {
+        return Err(number);
+    }
+    Ok(())
+}
+
+pub fn time_past_limit(time: u64) -> bool {
+    time > LAST_TIME
+}
+
+pub fn load_past_limit(load: i32) -> bool {
+    !(LEAST_LOAD..=GREATEST_LOAD).contains(&load)
+}

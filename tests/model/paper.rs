@@ -1,0 +1,177 @@
+//! Document 01, "Paper log": lists of lifts under serials. It never sees chips, state or answers.
+use crate::limits::*;
+use crate::load_tree::LoadTree;
+use crate::plate::plate_of;
+use script::calls::{Call, Window, PLATES};
+
+#[derive(Clone, Debug, PartialEq)]
+pub struct Lift {
+    pub time: u64,
+    pub load: i32,
+    pub note: [u8; 20],
+}
+
+impl Lift {
+    fn record(&self) -> [u8; ROW_BYTES] {
+        let mut record = [0; ROW_BYTES];
+        let stored_load = (i64::from(self.load) + LOAD_SHIFT) as u32;
+        record[..8].copy_from_slice(&self.time.to_le_bytes());
+        record[8..12].copy_from_slice(&stored_load.to_le_bytes());
+        record[12..].copy_from_slice(&self.note);
+        record
+    }
+}
+
+/// Why the open serial closed in a call.
+#[derive(Clone, Copy, PartialEq)]
+pub enum Closed {
+    ByClose,
+    At320Lifts,
+    ForBucket36,
+}
+
+/// What the log says of a call beside its number.
+#[derive(Default)]
+pub struct Said {
+    /// A serial that went: its slot, and no other, is erased in this call.
+    pub gone: Option<u64>,
+    pub closed: Option<Closed>,
+    /// The rows of a search, one after another.
+    pub rows: Vec<u8>,
+    /// Of a search the count of rows, of a tally its counts, of a lookup the plate.
+    pub values: Vec<u64>,
+}
+
+#[derive(Clone)]
+pub struct PaperLog {
+    slots: u64,
+    /// Closed segments, oldest first; the last one's serial is the open serial less 1.
+    closed: std::collections::VecDeque<Vec<Lift>>,
+    open: Vec<Lift>,
+    open_serial: u64,
+    open_tree: LoadTree,
+    next_time: u64,
+}
+
+impl PaperLog {
+    pub fn formatted(slots: u64) -> PaperLog {
+        PaperLog {
+            slots,
+            closed: Default::default(),
+            open: Vec::new(),
+            open_serial: 1,
+            open_tree: LoadTree::default(),
+            next_time: 0,
+        }
+    }
+
+    pub fn next_time(&self) -> u64 {
+        self.next_time
+    }
+
+    /// Every lift that the log holds, oldest first.
+    pub fn lifts(&self) -> impl Iterator<Item = &Lift> {
+        self.closed.iter().flatten().chain(&self.open)
+    }
+
+    fn oldest_serial(&self) -> u64 {
+        self.open_serial - self.closed.len() as u64
+    }
+
+    /// The number of a call after the format, and what it does.
+    pub fn call(&mut self, call: &Call) -> Outcome<Said> {
+        match *call {
+            Call::Plate { load } => {
+                refuse_if(load_past_limit(load), LOAD_LIMIT)?;
+                Ok(Said { values: vec![plate_of(load) as u64], ..Said::default() })
+            }
+            Call::Format { slots }
+            | Call::Append { slots, .. }
+            | Call::Close { slots }
+            | Call::Drop { slots }
+            | Call::Search { slots, .. }
+            | Call::Tally { slots, .. }
+                if slots != self.slots =>
+            {
+                Err(SLOTS_OR_NAND_LENGTH)
+            }
+            Call::Format { slots } => {
+                *self = PaperLog::formatted(slots);
+                Ok(Said::default())
+            }
+            Call::Append { time, load, note, .. } => self.append(Lift { time, load, note }),
+            Call::Close { .. } => self.close(),
+            Call::Drop { .. } => self.drop_oldest(),
+            Call::Search { window, area_bytes, .. } => self.search(&window, area_bytes / ROW_BYTES),
+            Call::Tally { t1, t2, .. } => self.tally(t1, t2),
+        }
+    }
+
+    fn append(&mut self, lift: Lift) -> Outcome<Said> {
+        refuse_if(time_past_limit(lift.time), TIME_LIMIT)?;
+        refuse_if(load_past_limit(lift.load), LOAD_LIMIT)?;
+        refuse_if(lift.time < self.next_time, TIME_BELOW_NEXT)?;
+        refuse_if(self.open_serial >= u64::from(LAST_SERIAL) - 1, LAST_SERIALS)?;
+        let mut said = Said::default();
+        if self.open.len() == SEGMENT_LIFTS {
+            said.closed = Some(Closed::At320Lifts);
+        } else if !self.open_tree.take(lift.load) {
+            said.closed = Some(Closed::ForBucket36);
+        }
+        if said.closed.is_some() {
+            self.begin_next_serial();
+            self.open_tree.take(lift.load);
+        }
+        self.next_time = lift.time + 1;
+        self.open.push(lift);
+        if self.open_serial > self.slots && self.oldest_serial() <= self.open_serial - self.slots {
+            said.gone = Some(self.open_serial - self.slots);
+            self.closed.pop_front();
+        }
+        Ok(said)
+    }
+
+    fn begin_next_serial(&mut self) {
+        self.closed.push_back(std::mem::take(&mut self.open));
+        self.open_tree = LoadTree::default();
+        self.open_serial += 1;
+    }
+
+    fn close(&mut self) -> Outcome<Said> {
+        refuse_if(self.open.is_empty(), NOTHING_TO_DO)?;
+        self.begin_next_serial();
+        Ok(Said { closed: Some(Closed::ByClose), ..Said::default() })
+    }
+
+    fn drop_oldest(&mut self) -> Outcome<Said> {
+        refuse_if(self.closed.is_empty(), NOTHING_TO_DO)?;
+        let gone = Some(self.oldest_serial());
+        self.closed.pop_front();
+        Ok(Said { gone, ..Said::default() })
+    }
+
+    /// The lifts of a window, or the first of grounds 4 to 6 against it.
+    pub fn found(&self, window: &Window) -> Outcome<Vec<&Lift>> {
+        let Window { t1, t2, k1, k2 } = *window;
+        refuse_if(time_past_limit(t1) || time_past_limit(t2), TIME_LIMIT)?;
+        refuse_if(load_past_limit(k1) || load_past_limit(k2), LOAD_LIMIT)?;
+        refuse_if(t1 > t2 || k1 > k2, BACKWARD_RANGE)?;
+        let wanted = |lift: &&Lift| (t1..=t2).contains(&lift.time) && (k1..=k2).contains(&lift.load);
+        Ok(self.lifts().filter(wanted).collect())
+    }
+
+    fn search(&self, window: &Window, whole_rows: usize) -> Outcome<Said> {
+        let found = self.found(window)?;
+        refuse_if(found.len() > whole_rows, TOO_MANY_ROWS)?;
+        let rows = found.iter().flat_map(|lift| lift.record()).collect();
+        Ok(Said { rows, values: vec![found.len() as u64], ..Said::default() })
+    }
+
+    fn tally(&self, t1: u64, t2: u64) -> Outcome<Said> {
+        let mut counts = vec![0; PLATES];
+        for lift in self.found(&Window { t1, t2, k1: LEAST_LOAD, k2: GREATEST_LOAD })? {
+            counts[plate_of(lift.load)] += 1;
+        }
+        Ok(Said { values: counts, ..Said::default() })
+    }
+}

@@ -1,0 +1,83 @@
+//! The seven calls of document 01 as values, and what answers them: the built library or the model.
+use crate::areas::Areas;
+
+pub const ROW_BYTES: usize = 32;
+pub const PLATES: usize = 21;
+/// Result and answer areas hold this byte before a call, so that bytes left alone can be told.
+pub const UNTOUCHED: u8 = 0xAA;
+
+#[derive(Clone, Copy, Debug, PartialEq)]
+pub struct Window {
+    pub t1: u64,
+    pub t2: u64,
+    pub k1: i32,
+    pub k2: i32,
+}
+
+#[derive(Clone, Debug, PartialEq)]
+pub enum Call {
+    Format { slots: u64 },
+    Append { slots: u64, time: u64, load: i32, note: [u8; 20] },
+    Close { slots: u64 },
+    Drop { slots: u64 },
+    Search { slots: u64, window: Window, area_bytes: usize },
+    Tally { slots: u64, t1: u64, t2: u64 },
+    Plate { load: i32 },
+}
+
+impl Call {
+    pub const NAMES: [&'static str; 7] = ["format", "append", "close", "drop", "search", "tally", "plate"];
+
+    /// The call's place in `NAMES`.
+    pub fn kind(&self) -> usize {
+        match self {
+            Call::Format { .. } => 0,
+            Call::Append { .. } => 1,
+            Call::Close { .. } => 2,
+            Call::Drop { .. } => 3,
+            Call::Search { .. } => 4,
+            Call::Tally { .. } => 5,
+            Call::Plate { .. } => 6,
+        }
+    }
+
+    pub fn name(&self) -> &'static str {
+        Self::NAMES[self.kind()]
+    }
+
+    fn value_bytes(&self) -> usize {
+        match self {
+            Call::Search { .. } | Call::Plate { .. } => 8,
+            Call::Tally { .. } => 8 * PLATES,
+            _ => 0,
+        }
+    }
+}
+
+/// The two areas that a call writes its answer into.
+#[derive(Clone, Debug, PartialEq)]
+pub struct Outputs {
+    pub rows: Vec<u8>,
+    /// Numbers of eight bytes: a search's count, a tally's counts, a plate.
+    pub values: Vec<u8>,
+}
+
+impl Outputs {
+    pub fn untouched(call: &Call) -> Outputs {
+        let area_bytes = match call {
+            Call::Search { area_bytes, .. } => *area_bytes,
+            _ => 0,
+        };
+        Outputs { rows: vec![UNTOUCHED; area_bytes], values: vec![UNTOUCHED; call.value_bytes()] }
+    }
+
+    pub fn value(&self, index: usize) -> u64 {
+        let bytes = &self.values[8 * index..8 * index + 8];
+        u64::from_le_bytes(bytes.try_into().unwrap())
+    }
+}
+
+/// Whoever answers a call gives its number and changes the areas as the call does.
+pub trait Store {
+    fn answer(&mut self, call: &Call, areas: &mut Areas, outputs: &mut Outputs) -> u8;
+}

@@ -1,0 +1,116 @@
+//! Runs a script over a store and writes the lines that answer it.
+use crate::areas::{World, PAGE_BYTES, SLOT_BYTES};
+use crate::calls::{Call, Outputs, Store, PLATES, ROW_BYTES};
+use crate::command::{hex, Command};
+use crate::hash::{copy_changed, fnv1a, KeptHash};
+use crate::parse::parse;
+use std::io::{BufRead, Write};
+
+pub struct Interpreter<S: Store> {
+    store: S,
+    world: World,
+    found: Vec<u8>,
+    nand_before: Vec<u8>,
+    nor_before: Vec<u8>,
+    nand_hash: KeptHash,
+}
+
+impl<S: Store> Interpreter<S> {
+    pub fn new(store: S) -> Self {
+        Interpreter {
+            store,
+            world: World::empty(),
+            found: Vec::new(),
+            nand_before: Vec::new(),
+            nor_before: Vec::new(),
+            nand_hash: KeptHash::default(),
+        }
+    }
+
+    /// Answers every line of `script` on `out`; an error names the line that has no meaning.
+    pub fn run(&mut self, script: impl BufRead, out: &mut impl Write) -> Result<(), String> {
+        for (index, line) in script.lines().enumerate() {
+            let told = |problem: String| format!("line {}: {problem}", index + 1);
+            let line = line.map_err(|error| told(error.to_string()))?;
+            if let Some(command) = parse(&line).map_err(told)? {
+                let text = self.perform(&command);
+                out.write_all(text.as_bytes()).map_err(|error| error.to_string())?;
+            }
+        }
+        out.flush().map_err(|error| error.to_string())
+    }
+
+    fn perform(&mut self, command: &Command) -> String {
+        match command {
+            Command::Call(call) => self.call(call),
+            Command::Rows => self.rows(),
+            Command::Dump { part, offset, length } => {
+                let bytes = self.world.areas.part(*part);
+                let from = (*offset).min(bytes.len());
+                let to = offset.saturating_add(*length).min(bytes.len());
+                format!("dump {}\n", hex(&bytes[from..to]))
+            }
+            Command::Changed => self.changed(),
+            other => {
+                self.world.apply(other);
+                String::new()
+            }
+        }
+    }
+
+    fn call(&mut self, call: &Call) -> String {
+        if !matches!(call, Call::Plate { .. }) {
+            copy_changed(&self.world.areas.nand, &mut self.nand_before);
+            copy_changed(&self.world.areas.nor, &mut self.nor_before);
+        }
+        let mut outputs = Outputs::untouched(call);
+        let number = self.store.answer(call, &mut self.world.areas, &mut outputs);
+        let accepted = number == 0;
+        let mut line = format!("{} {number}", call.name());
+        match call {
+            Call::Search { .. } => {
+                let count = if accepted { outputs.value(0) } else { 0 };
+                let found = (count as usize).saturating_mul(ROW_BYTES).min(outputs.rows.len());
+                self.found = outputs.rows[..found].to_vec();
+                line += &format!(" {count} {:016x}", fnv1a(&outputs.rows));
+            }
+            Call::Tally { .. } if accepted => {
+                (0..PLATES).for_each(|plate| line += &format!(" {}", outputs.value(plate)));
+            }
+            Call::Plate { .. } if accepted => line += &format!(" {}", outputs.value(0)),
+            _ => {}
+        }
+        if !matches!(call, Call::Plate { .. }) {
+            line += &self.hashes();
+        }
+        line + "\n"
+    }
+
+    fn hashes(&mut self) -> String {
+        let areas = &self.world.areas;
+        let nand = self.nand_hash.of(&areas.nand);
+        format!(" nand={nand:016x} nor={:016x} state={:016x}", fnv1a(&areas.nor), fnv1a(&areas.state))
+    }
+
+    fn rows(&self) -> String {
+        let row = |row: &[u8]| {
+            let time = u64::from_le_bytes(row[..8].try_into().unwrap());
+            let stored_load = u32::from_le_bytes(row[8..12].try_into().unwrap());
+            format!("  {time} {} {}\n", i64::from(stored_load) - 50_001, hex(&row[12..]))
+        };
+        self.found.chunks(ROW_BYTES).map(row).collect()
+    }
+
+    fn changed(&self) -> String {
+        let areas = &self.world.areas;
+        let shared = areas.nand.len().min(self.nand_before.len());
+        let pages = areas.nand[..shared].chunks(PAGE_BYTES).zip(self.nand_before[..shared].chunks(PAGE_BYTES));
+        let mut line = String::from("changed");
+        for (page, _) in pages.enumerate().filter(|(_, (now, before))| now != before) {
+            let pages_per_slot = SLOT_BYTES / PAGE_BYTES;
+            line += &format!(" {}.{}", page / pages_per_slot, page % pages_per_slot);
+        }
+        let nor = areas.nor.iter().zip(&self.nor_before).filter(|(now, before)| now != before).count();
+        format!("{line}\nnorchanged {nor}\n")
+    }
+}

@@ -1,0 +1,96 @@
+//! Reads one line of a script.
+use crate::calls::{Call, Window};
+use crate::command::{Command, Field, Fill, Part};
+use std::str::{FromStr, SplitWhitespace};
+
+struct Words<'a>(SplitWhitespace<'a>);
+
+impl<'a> Words<'a> {
+    fn word(&mut self) -> Result<&'a str, String> {
+        self.0.next().ok_or_else(|| "a word is missing".to_string())
+    }
+
+    fn number<T: FromStr>(&mut self) -> Result<T, String> {
+        let word = self.word()?;
+        word.parse().map_err(|_| format!("'{word}' is not a number that fits"))
+    }
+
+    fn named<T: Copy>(&mut self, names: &[(&str, T)]) -> Result<T, String> {
+        let word = self.word()?;
+        let found = names.iter().find(|(name, _)| *name == word);
+        found.map(|(_, value)| *value).ok_or_else(|| format!("'{word}' has no meaning here"))
+    }
+
+    fn fill(&mut self) -> Result<Fill, String> {
+        let word = self.word()?;
+        let bad = || format!("'{word}' is no fill");
+        match word.strip_prefix('r') {
+            Some(number) => number.parse().map(Fill::Mixed).map_err(|_| bad()),
+            None => word.parse().map(Fill::Byte).map_err(|_| bad()),
+        }
+    }
+
+    fn note(&mut self) -> Result<[u8; 20], String> {
+        let word = self.word()?;
+        if word.len() != 40 || !word.bytes().all(|digit| digit.is_ascii_hexdigit()) {
+            return Err(format!("'{word}' is not 40 hex digits"));
+        }
+        let byte = |i: usize| u8::from_str_radix(&word[2 * i..2 * i + 2], 16).unwrap();
+        Ok(std::array::from_fn(byte))
+    }
+
+    fn window(&mut self) -> Result<Window, String> {
+        Ok(Window { t1: self.number()?, t2: self.number()?, k1: self.number()?, k2: self.number()? })
+    }
+
+    fn poke(&mut self, part: Part) -> Result<Command, String> {
+        Ok(Command::Poke { part, offset: self.number()?, value: self.number()? })
+    }
+
+    fn call(&mut self, name: &str) -> Result<Call, String> {
+        if name == "plate" {
+            return Ok(Call::Plate { load: self.number()? });
+        }
+        let slots = self.number()?;
+        match name {
+            "format" => Ok(Call::Format { slots }),
+            "append" => Ok(Call::Append { slots, time: self.number()?, load: self.number()?, note: self.note()? }),
+            "close" => Ok(Call::Close { slots }),
+            "drop" => Ok(Call::Drop { slots }),
+            "search" => Ok(Call::Search { slots, window: self.window()?, area_bytes: self.number()? }),
+            "tally" => Ok(Call::Tally { slots, t1: self.number()?, t2: self.number()? }),
+            other => Err(format!("'{other}' is no command")),
+        }
+    }
+
+    fn command(&mut self) -> Result<Command, String> {
+        match self.word()? {
+            "areas" => Ok(Command::Areas { nand_bytes: self.number()?, nor_bytes: self.number()?, fill: self.fill()? }),
+            "nand" => self.poke(Part::Nand),
+            "nor" => self.poke(Part::Nor),
+            "state" => self.poke(Part::State),
+            "fields" => Ok(Command::SetField { field: self.named(&Field::ALL)?, value: self.number()? }),
+            "snap" => Ok(Command::Snap),
+            "back" => Ok(Command::Back),
+            "rows" => Ok(Command::Rows),
+            "dump" => {
+                Ok(Command::Dump { part: self.named(&Part::ALL)?, offset: self.number()?, length: self.number()? })
+            }
+            "changed" => Ok(Command::Changed),
+            name => self.call(name).map(Command::Call),
+        }
+    }
+}
+
+/// The command of a line; none for an empty line and for a note, which begins with '#'.
+pub fn parse(line: &str) -> Result<Option<Command>, String> {
+    if line.trim().is_empty() || line.starts_with('#') {
+        return Ok(None);
+    }
+    let mut words = Words(line.split_whitespace());
+    let command = words.command()?;
+    match words.0.next() {
+        Some(word) => Err(format!("'{word}' is too much")),
+        None => Ok(Some(command)),
+    }
+}
