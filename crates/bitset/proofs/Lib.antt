@@ -4,3 +4,4 @@ pub mod Elem
 pub mod Set
 pub mod Counting
 pub mod Emptying
+pub mod Words

@@ -1,6 +1,8 @@
 // The matches of one segment: a set of 320 bits, emptied from the lowest bit up.
 ghost use mathlib.Core.Path.{_≡_};
-ghost use Prim.Native.Nat.{_^_, _<_, _≤_};
+ghost use mathlib.Core.Bool.{true, cond};
+ghost use Prim.Native.Nat.{_+_, _-_, _^_, _<_, _≤_};
+ghost use lib.Bits.{bitOr};
 ghost use lib.ListN.{length};
 ghost use lib.Count.{trailingZeros};
 ghost use lib.Count as Count;
@@ -41,6 +43,39 @@ fn ones(x: u64) -> u32
     u64::count_ones(x)
 }
 
+// The word without its lowest bit.
+fn without_lowest(x: u64) -> u64
+    requires { ⌜ 0 < x ⌝ }
+    ensures { λ r. ⌜ r ≡ x - 2 ^ trailingZeros 64 x ⌝ }
+{
+    let k = lowest(x);
+    x - power(k)
+}
+
+// The word with these bits, where it is theirs.
+fn with_bits(x: u64, bits: u64, here: bool) -> u64
+    ensures { λ r. ⌜ r ≡ cond here (bitOr x bits) x ⌝ }
+{
+    if here {
+        return x | bits;
+    }
+    x
+}
+
+// The place of the lowest bit of x, a word whose places begin at `from`, and the words without it.
+fn found_at(words: [u64; 5], x: u64, from: usize) -> Next
+    requires { ⌜ (0 < x) × (from ≤ 256) ⌝ }
+    ensures { λ r. ⌜ r ≡ record { found = true; at = from + trailingZeros 64 x; rest = record { words = words } } ⌝ }
+    ensures { λ r. ⌜ r .at < 320 ⌝ }
+{
+    let k = lowest(x);
+    Next {
+        found: true,
+        at: from + k,
+        rest: Bits { words: words },
+    }
+}
+
 impl Bits {
     pub fn empty() -> Bits
         ensures { λ r. ⌜ r .words ≡ emptyWords ⌝ }
@@ -52,10 +87,16 @@ impl Bits {
         requires { ⌜ p < 320 ⌝ }
         ensures { λ r. ⌜ r .words ≡ insertIn (self .words) p ⌝ }
     {
-        let mut w = self.words;
+        let w = self.words;
         let i = p / 64;
-        w[i] = w[i] | power(p % 64);
-        Bits { words: w }
+        let bits = power(p % 64);
+        // A constant place for each word: a computed one would keep the words in memory.
+        let a = with_bits(w[0], bits, i == 0);
+        let b = with_bits(w[1], bits, i == 1);
+        let c = with_bits(w[2], bits, i == 2);
+        let d = with_bits(w[3], bits, i == 3);
+        let e = with_bits(w[4], bits, i == 4);
+        Bits { words: [a, b, c, d, e] }
     }
 
     pub fn count(self) -> u32
@@ -70,21 +111,25 @@ impl Bits {
         ensures { λ r. ⌜ (r ≡ nextOf self) × (r .at < 320) ⌝ }
     {
         let w = self.words;
-        let mut i: usize = 0;
-        while i < 5 {
-            let x = w[i];
-            if 0 < x {
-                let k = lowest(x);
-                let mut rest = w;
-                rest[i] = x - power(k);
-                let p = 64 * i + k;
-                return Next {
-                    found: true,
-                    at: p,
-                    rest: Bits { words: rest },
-                };
-            }
-            i += 1;
+        let a = w[0];
+        let b = w[1];
+        let c = w[2];
+        let d = w[3];
+        let e = w[4];
+        if 0 < a {
+            return found_at([without_lowest(a), b, c, d, e], a, 0);
+        }
+        if 0 < b {
+            return found_at([a, without_lowest(b), c, d, e], b, 64);
+        }
+        if 0 < c {
+            return found_at([a, b, without_lowest(c), d, e], c, 128);
+        }
+        if 0 < d {
+            return found_at([a, b, c, without_lowest(d), e], d, 192);
+        }
+        if 0 < e {
+            return found_at([a, b, c, d, without_lowest(e)], e, 256);
         }
         Next {
             found: false,

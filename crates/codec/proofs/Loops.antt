@@ -6,7 +6,7 @@ use Prim.Native.Nat.{ℕ, zero, suc, _+_, _-_, _*_, _/_, _%_, _^_, _≤_, _<_}
 use native.Mathlib.Nat.{pow-suc, pow-le-pow-right, lt-of-lt-of-le}
 use native.Mathlib.Numerals.{add-one}
 use native.Mathlib.Omega.{arith}
-use borrow.Author.Tests.{eq-eqb, ne-eqb}
+use lib.Dec.{eqb}
 use lib.ListN.{length, take, drop, getD, set}
 use lib.Seq.{sets, sets-eq, drop-cons, paste, take-all}
 use Rattle.codec.specs.Area.{part, splice, repeated, allOnes}
@@ -88,11 +88,13 @@ part-step s to (suc n) h k =
     let e : suc n - 1 ≡ n = omega arith in
     rw (add-one, e, drop-cons s to 0)
 
-pub ones-more : (s : List ℕ) (to left : ℕ) → 0 < left → to < length s → getD s to 0 ≡ 255
-    → allOnes (part s (to + 1) (left - 1)) ≡ allOnes (part s to left)
+pub ones-more : (s : List ℕ) (good : Bool) (to left : ℕ) → 0 < left → to < length s
+    → ((good && eqb (getD s to 0) 255) && allOnes (part s (to + 1) (left - 1))) ≡ (good && allOnes (part s to left))
 unfolding allOnes
-ones-more s to left h k e = rw (part-step s to left h k, eq-eqb _ _ e)
+ones-more s true to left h k = rw (part-step s to left h k)
+ones-more s false to left h k = refl
 
-pub ones-not : (s : List ℕ) (to left : ℕ) → 0 < left → to < length s → (getD s to 0 ≡ 255 → ⊥) → false ≡ allOnes (part s to left)
-unfolding allOnes
-ones-not s to left h k e = rw (part-step s to left h k, ne-eqb _ _ e)
+pub ones-none : (s : List ℕ) (good : Bool) (to left : ℕ) → left ≡ 0 → good ≡ (good && allOnes (part s to left))
+unfolding allOnes part
+ones-none s true to left z = rw z
+ones-none s false to left z = refl

@@ -117,19 +117,18 @@ pub fn fill(s: &mut [u8], at: usize, n: usize, v: u8)
     }
 }
 
-// Whether the n bytes from `at` are all 255.
+// Whether the n bytes from `at` are all 255. No early return: without one many bytes are tested at a time.
 pub fn all_ones(s: &[u8], at: usize, n: usize) -> bool
     requires { ⌜ at + n ≤ length (now s) ⌝ }
     ensures { λ r. ⌜ r ≡ allOnes (part (now (s .entry)) at n) ⌝ }
 {
+    let mut good = true;
     let mut left = n;
     let mut to = at;
     while 0 < left {
-        if s[to] != 255 {
-            return false;
-        }
+        good = good & (s[to] == 255);
         to += 1;
         left -= 1;
     }
-    true
+    good
 }

@@ -1,9 +1,7 @@
 // The plate of a load, and the counts of a tally by plate (document 01, "Plates").
 ghost use mathlib.Core.Path.{_≡_};
-ghost use Prim.Native.Nat.{_+_, _^_, _<_};
-ghost use lib.ListN.{getD};
 ghost use Rattle.lift.specs.Limits.{loadOf};
-ghost use Rattle.plate.specs.Plate.{plateOf, lookup, noCounts, countedIn};
+ghost use Rattle.plate.specs.Plate.{plateOf, lookup, noCounts};
 
 pub const PLATES: usize = 21;
 // Ground 5: a load is past its limit.
@@ -55,15 +53,4 @@ pub fn no_counts() -> [u64; PLATES]
     ensures { λ r. ⌜ r ≡ noCounts ⌝ }
 {
     [0u64; PLATES]
-}
-
-// One lift more of this load: one place changes.
-pub fn counted(counts: [u64; PLATES], code: u32) -> [u64; PLATES]
-    requires { ⌜ getD counts (plateOf (loadOf code)) 0 + 1 < 2 ^ 64 ⌝ }
-    ensures { λ r. ⌜ r ≡ countedIn counts code ⌝ }
-{
-    let mut c = counts;
-    let i = plate_of_code(code) as usize;
-    c[i] = c[i] + 1;
-    c
 }

@@ -39,8 +39,8 @@ fn tally_set(lifts: &[u8], tail: &[u8], g: Records, set: Bits, counts: [u64; 21]
             return n;
         }
         let code = lift::code_in(lifts, tail, g.first, x.at);
-        let more = plate::counted(n, code);
-        n = more;
+        let i = plate::plate_of_code(code) as usize;
+        n[i] = n[i] + 1;
         rest = x.rest;
     }
 }
