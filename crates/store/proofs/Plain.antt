@@ -11,7 +11,7 @@ use borrow.Author.Tests.{ne-eqb, eqb-false}
 use Rattle.lift.specs.Limits.{stored}
 use Rattle.tree.specs.Plan as Tree
 use Rattle.tree.specs.Plan.{isNoRoom}
-use Rattle.tree.specs.Writes.{Writes, writesOf, allWritten, bucketsAfter}
+use Rattle.tree.specs.Writes.{writesOf, allWritten, bucketsAfter}
 use Rattle.grow.specs.declared.Plan.{Plan}
 use Rattle.store.specs.declared.State.{State}
 use Rattle.store.specs.World.{World, world, putWorld, stateWith, pageWith, bloomWith, fillsPage, fillsSection}
@@ -81,15 +81,12 @@ module _ (nand nor : List ℕ) (s : State) (slots time : ℕ) (load : ℤ) (note
   unfolding putWorld stateWith stateGiven
   put = rw (is .page, no-section (s .count) (is .page))
 
-  pub plain-carried : carriedOut (world nand nor s) slots time load note p
-      ≡ world nand (allWritten nor (writesOf p (s .buckets) (stored load) (s .count)))
-      (stateGiven s time load (bucketsAfter p (s .buckets)) (pageWith s time load note) (bloomWith s load))
+  carried : carriedOut (world nand nor s) slots time load note p ≡ putWorld (world nand nor s) slots time load note p
   unfolding carriedOut
-  plain-carried = ap (λ (t : World). putWorld t slots time load note p) due ∙ put
+  carried = ap (λ (t : World). putWorld t slots time load note p) due
 
   -- the world that its pieces leave
-  pub plain-made : (nor' : List ℕ) (s' : State) (code buckets : ℕ) (ws : Writes) → code ≡ stored load
-      → ws ≡ writesOf p (s .buckets) code (s .count) → nor' ≡ allWritten nor ws → buckets ≡ bucketsAfter p (s .buckets)
-      → world nand nor' (stateGiven s time load buckets (pageWith s time load note) (bloomWith s load))
+  pub plain-made : (nor' : List ℕ) → nor' ≡ allWritten nor (writesOf p (s .buckets) (stored load) (s .count))
+      → world nand nor' (stateGiven s time load (bucketsAfter p (s .buckets)) (pageWith s time load note) (bloomWith s load))
       ≡ carriedOut (world nand nor s) slots time load note p
-  plain-made nor' s' code buckets ws a b c d = rw (c, b, a, d) (sym plain-carried)
+  plain-made nor' e = rw e (sym (carried ∙ put))
