@@ -2,11 +2,18 @@
 -- time .., oldest live time, four skip heads, last 13 loads of the open segment (oldest first), page buffer, Bloom buffer, the open
 -- segment's start time, low and high load". Little-endian, no gaps. Assumes nothing.
 use mathlib.Core.List.{List, _++_}
-use Prim.Native.Nat.{ℕ}
-use Rattle.codec.specs.Area.{part}
+use Prim.Native.Nat.{ℕ, _*_, _%_}
+use lib.IntN.{ℤ}
+use Rattle.codec.specs.Area.{part, splice}
 use Rattle.codec.specs.Number.{bytes, numberAt}
+use Rattle.lift.specs.Record.{recordBytes}
+use Rattle.bloom.specs.Bloom.{noted}
+use Rattle.skiplist.specs.declared.Pointer.{Pointer}
 use Rattle.skiplist.specs.PointerBytes.{pointersBytes, pointersAt}
 use Rattle.store.specs.declared.State.{State}
+use Rattle.store.specs.Pieces.{stateGiven}
+use Rattle.state_bytes.specs.declared.Counters.{Counters}
+use Rattle.state_bytes.specs.declared.Span.{Span}
 use Rattle.state_bytes.specs.Signed.{loadBytes, loadsBytes, loadAt, loadsAt}
 
 unfoldable pub stateBytes : State → List ℕ
@@ -16,13 +23,36 @@ stateBytes s =
     ++ loadBytes (s .low) ++ loadBytes (s .high)
 
 -- its fields before the heads, and those behind the buffers
-unfoldable pub countersBytes : State → List ℕ
-countersBytes s =
-    bytes 4 (s .oldest) ++ bytes 4 (s .current) ++ bytes 2 (s .count) ++ bytes 1 (s .buckets) ++ bytes 8 (s .next)
-    ++ bytes 8 (s .live)
+abbrev pub countersOf : State → Counters
+countersOf s = record {
+  oldest = s .oldest;
+  current = s .current;
+  count = s .count;
+  buckets = s .buckets;
+  next = s .next;
+  live = s .live;
+}
 
-unfoldable pub spanBytes : State → List ℕ
+abbrev pub spanOf : State → Span
+spanOf s = record { start = s .start; low = s .low; high = s .high }
+
+unfoldable pub countersBytes : Counters → List ℕ
+countersBytes c =
+    bytes 4 (c .oldest) ++ bytes 4 (c .current) ++ bytes 2 (c .count) ++ bytes 1 (c .buckets) ++ bytes 8 (c .next)
+    ++ bytes 8 (c .live)
+
+unfoldable pub spanBytes : Span → List ℕ
 spanBytes s = bytes 8 (s .start) ++ loadBytes (s .low) ++ loadBytes (s .high)
+
+-- all fields side by side
+unfoldable pub fieldsBytes : Counters → List Pointer → List ℤ → List ℕ → List ℕ → Span → List ℕ
+fieldsBytes c heads loads page section s =
+    ((((countersBytes c ++ pointersBytes heads) ++ loadsBytes loads) ++ page) ++ section) ++ spanBytes s
+
+-- a state with a lift that fills no page, its bucket count given
+unfoldable pub withLift : State → ℕ → ℕ → ℤ → List ℕ → ℕ → State
+withLift s time code load note buckets =
+    stateGiven s time load buckets (splice (s .page) (s .count % 16 * 32) (recordBytes time code note)) (noted (s .bloom) code)
 
 -- the state in such an area
 unfoldable pub stateIn : List ℕ → State

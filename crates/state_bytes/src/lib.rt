@@ -1,4 +1,6 @@
 // The state as a lent area of 775 bytes, in the order of document 01's list: little-endian, no gaps.
+pub mod in_place;
+
 use skiplist::Pointer;
 use store::State;
 ghost use mathlib.Core.Path.{_≡_};
@@ -7,7 +9,7 @@ ghost use lib.ListN.{length};
 ghost use Rattle.codec.specs.Area.{part, splice};
 ghost use Rattle.state_bytes.specs.Signed as Signed;
 ghost use Rattle.state_bytes.specs.Signed.{loadBytes, loadsBytes, loadAt, loadsAt};
-ghost use Rattle.state_bytes.specs.StateBytes.{countersBytes, spanBytes, stateBytes, stateIn};
+ghost use Rattle.state_bytes.specs.StateBytes.{countersBytes, spanBytes, fieldsBytes, stateBytes, stateIn};
 
 pub const STATE_BYTES: usize = 775;
 // Where each field stands.
@@ -36,6 +38,22 @@ const START_AT: usize = 759;
 const LOW_AT: usize = 767;
 
 const HIGH_AT: usize = 771;
+
+// The fields before the heads, and those behind the buffers.
+pub struct Counters {
+    pub oldest: u32,
+    pub current: u32,
+    pub count: u16,
+    pub buckets: u8,
+    pub next: u64,
+    pub live: u64,
+}
+
+pub struct Span {
+    pub start: u64,
+    pub low: i32,
+    pub high: i32,
+}
 
 // A signed number by its 32 bits, two's complement.
 fn signed(n: u32) -> i32
@@ -174,27 +192,44 @@ pub fn get_state(b: &[u8]) -> State
     }
 }
 
-// The fields before the heads.
-fn put_counters(b: &mut [u8], s: State)
+fn put_counters(b: &mut [u8], c: Counters)
     requires { ⌜ length (now b) ≡ 775 ⌝ }
-    ensures { λ _. ⌜ now (b .exit) ≡ splice (now (b .entry)) 0 (countersBytes s) ⌝ }
+    ensures { λ _. ⌜ now (b .exit) ≡ splice (now (b .entry)) 0 (countersBytes c) ⌝ }
 {
-    codec::put_u32(b, OLDEST_AT, s.oldest);
-    codec::put_u32(b, CURRENT_AT, s.current);
-    codec::put_u16(b, COUNT_AT, s.count);
-    codec::put_u8(b, BUCKETS_AT, s.buckets);
-    codec::put_u64(b, NEXT_AT, s.next);
-    codec::put_u64(b, LIVE_AT, s.live);
+    codec::put_u32(b, OLDEST_AT, c.oldest);
+    codec::put_u32(b, CURRENT_AT, c.current);
+    codec::put_u16(b, COUNT_AT, c.count);
+    codec::put_u8(b, BUCKETS_AT, c.buckets);
+    codec::put_u64(b, NEXT_AT, c.next);
+    codec::put_u64(b, LIVE_AT, c.live);
 }
 
-// The fields behind the buffers.
-fn put_span(b: &mut [u8], s: State)
+fn put_span(b: &mut [u8], s: Span)
     requires { ⌜ length (now b) ≡ 775 ⌝ }
     ensures { λ _. ⌜ now (b .exit) ≡ splice (now (b .entry)) 759 (spanBytes s) ⌝ }
 {
     codec::put_u64(b, START_AT, s.start);
     put_load(b, LOW_AT, s.low);
     put_load(b, HIGH_AT, s.high);
+}
+
+// Everything but the page buffer.
+fn put_around(
+    b: &mut [u8],
+    c: Counters,
+    heads: [Pointer; 4],
+    loads: [i32; 13],
+    section: [u8; 128],
+    s: Span,
+)
+    requires { ⌜ length (now b) ≡ 775 ⌝ }
+    ensures { λ _. ⌜ now (b .exit) ≡ fieldsBytes c heads loads (part (now (b .entry)) 119 512) section s ⌝ }
+{
+    put_counters(b, c);
+    skiplist::put_pointers(b, HEADS_AT, heads);
+    put_loads(b, loads);
+    put_bloom(b, section);
+    put_span(b, s);
 }
 
 pub fn put_state(b: &mut [u8], s: State)
@@ -205,10 +240,19 @@ pub fn put_state(b: &mut [u8], s: State)
     let loads = s.loads;
     let page = s.page;
     let bloom = s.bloom;
-    put_counters(b, s);
-    skiplist::put_pointers(b, HEADS_AT, heads);
-    put_loads(b, loads);
+    let c = Counters {
+        oldest: s.oldest,
+        current: s.current,
+        count: s.count,
+        buckets: s.buckets,
+        next: s.next,
+        live: s.live,
+    };
+    let span = Span {
+        start: s.start,
+        low: s.low,
+        high: s.high,
+    };
     put_page(b, page);
-    put_bloom(b, bloom);
-    put_span(b, s);
+    put_around(b, c, heads, loads, bloom, span);
 }

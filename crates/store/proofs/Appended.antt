@@ -1,6 +1,5 @@
--- Each return of `append` is what the definition gives there: grounds 1 to 8, then 10 and 11, then the world that the pieces
--- leave one after the
--- other. Assumes nothing.
+-- An append's number as tested, grounds 1 to 8 and then 10 and 11, and the world that its pieces leave one after the other. Assumes
+-- nothing.
 use mathlib.Core.Path.{_≡_, refl, sym, ap, subst, _∙_}
 use mathlib.Core.Bool.{Bool, true, false, cond, not}
 use mathlib.Core.List.{List, []}
@@ -20,12 +19,11 @@ use Rattle.grow.specs.Meaning.{meaning, Fitting}
 use Rattle.store.specs.declared.State.{State}
 use Rattle.store.specs.Bounds.{withinBounds}
 use Rattle.store.specs.World.{World, world, closeWorld, movedOn, dropWorld, withoutOldest, liveAfter, putWorld}
-use Rattle.store.specs.Calls as Calls
-use Rattle.store.specs.Calls.{answered, boundsGround, planOf, roomWorld, appendGround, appendWorld, appendOutcome}
+use Rattle.store.specs.Calls.{boundsGround, planOf, roomWorld, appendGround}
 use Rattle.store.specs.Pieces.{Suits, dropsFirst, dropDue, entryGround, laterGround, carriedOut}
 use Rattle.store.proofs.Rows.{row-same, row-later, row-none}
 use Rattle.store.proofs.Grounds.{Standing}
-use Rattle.store.proofs.Outcomes.{refuses, accepts, stands}
+use Rattle.store.proofs.Outcomes.{stands}
 
 -- ---- grounds 1 to 8
 
@@ -161,7 +159,7 @@ carried-made w nand nor nand' nand'' nor'' s s' s'' slots time z load note p k e
 
 -- ---- the number
 
-module _ (nand nor : List ℕ) (s : State) (slots time : ℕ) (load : ℤ) (note : List ℕ) (n : ℕ)
+module _ (nand nor : List ℕ) (s : State) (slots time : ℕ) (load : ℤ) (n : ℕ)
     (judged : n ≡ entryGround s (length nand) (length nor) slots time load) where
   abbrev w : World
   w = world nand nor s
@@ -170,9 +168,9 @@ module _ (nand nor : List ℕ) (s : State) (slots time : ℕ) (load : ℤ) (note
   more : ℕ
   more = laterGround w slots load (planOf w load)
 
-  early : (n ≡ 0 → ⊥) → n ≡ appendGround w slots time load
+  pub number-early : (n ≡ 0 → ⊥) → n ≡ appendGround w slots time load
   unfolding appendGround entryGround more laterGround
-  early h =
+  number-early h =
       row-same (nandBad (length nand) slots) (norBad (length nor)) (not (withinBounds s slots)) n _ _ judged
       (λ e. e ∙ sym (lift-then time load (s .next) (s .current) more ∙ past e))
     where
@@ -181,14 +179,10 @@ module _ (nand nor : List ℕ) (s : State) (slots time : ℕ) (load : ℤ) (note
           ≡ liftGround time load (s .next) (s .current) 0
       past e = rw (← e, ne-eqb n 0 h)
 
-  pub append-early : (n ≡ 0 → ⊥) → answered n nand nor s ≡ appendOutcome w slots time load note
-  unfolding appendOutcome
-  append-early h = refuses n _ w (appendWorld w slots time load note) (early h) h
-
   module _ (zero : n ≡ 0) (p : Tree.Plan) (planned : p ≡ planOf w load) (m : ℕ) (later : m ≡ laterGround w slots load p) where
-    number : m ≡ appendGround w slots time load
+    pub number-later : m ≡ appendGround w slots time load
     unfolding appendGround more laterGround
-    number =
+    number-later =
         let e = entered s (length nand) (length nor) slots time load (sym judged ∙ zero) in
         stands w slots 0 (sym (e .bounds)) _ m refl (later ∙ by-plan
         ∙ sym (lift-then time load (s .next) (s .current) more ∙ past (e .lift)))
@@ -200,14 +194,3 @@ module _ (nand nor : List ℕ) (s : State) (slots time : ℕ) (load : ℤ) (note
             → cond (eqb (liftGround time load (s .next) (s .current) 0) 0) more
             (liftGround time load (s .next) (s .current) 0) ≡ more
         past f = rw f
-
-    pub append-later : (m ≡ 0 → ⊥) → answered m nand nor s ≡ appendOutcome w slots time load note
-    unfolding appendOutcome
-    append-later h = refuses m _ w (appendWorld w slots time load note) number h
-
-    pub append-done : (nand' nor' : List ℕ) (s' : State) (z : ℤ) → z ≡ load → m ≡ 0
-        → world nand' nor' s' ≡ carriedOut w slots time z note p
-        → answered 0 nand' nor' s' ≡ appendOutcome w slots time load note
-    unfolding appendOutcome appendWorld carriedOut dropDue Calls.dropsFirst
-    append-done nand' nor' s' z k h e =
-        accepts m _ w (appendWorld w slots time load note) number (world nand' nor' s') h (rw (planned, k) at e)

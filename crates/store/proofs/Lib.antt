@@ -7,3 +7,4 @@ pub mod Forced
 pub mod Blocked
 pub mod Appended
 pub mod Asked
+pub mod Plain

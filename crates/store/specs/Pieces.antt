@@ -1,13 +1,14 @@
 -- What the pieces of an append give, for any chips and any state (document 01, "Segments"). Assumes nothing.
 use mathlib.Core.Path.{_≡_}
-use mathlib.Core.Bool.{Bool, true, false, cond, not, _&&_}
+use mathlib.Core.Bool.{Bool, true, false, cond, not, _&&_, _||_}
 use mathlib.Core.List.{List}
 use Prim.Native.Nat.{ℕ, _+_, _-_, _/_, _≤_, _<_}
 use lib.Dec.{eqb, leb}
 use lib.IntN.{ℤ}
+use lib.ListN.{length}
 use Rattle.codec.specs.Area.{splice}
 use Rattle.flash.specs.Chip.{slotOf, programmed}
-use Rattle.lift.specs.Limits.{stored}
+use Rattle.lift.specs.Limits.{loadOk, stored}
 use Rattle.tree.specs.Plan as Tree
 use Rattle.tree.specs.Plan.{isNoRoom}
 use Rattle.tree.specs.Writes.{writesOf, allWritten}
@@ -18,13 +19,21 @@ use Rattle.bounds.specs.Lifts.{pushed, lowWith, highWith}
 use Rattle.store.specs.declared.State.{State}
 use Rattle.store.specs.Bounds.{withinBounds}
 use Rattle.store.specs.World.{World, dropWorld, putWorld, pageWith, bloomWith, fillsPage, fillsSection, sectionStart}
-use Rattle.store.specs.Calls.{roomWorld, dropDamage, appendDamage, appendUnerased}
+use Rattle.store.specs.Calls.{boundsGround, planOf, roomWorld, dropDamage, appendDamage, appendUnerased}
 
 -- the code's plan fits the state: a full segment has lifts, any other has room for one
 pub record Suits (s : State) (p : Plan) : Type 0 where
   pub fits : Fitting (s .buckets) p
   pub full : isNoRoom (meaning p) ≡ true → 1 ≤ s .count
   pub room : isNoRoom (meaning p) ≡ false → s .count < 320
+
+-- what holds of an append that no ground refuses, and of the code's plan for it
+pub record Accepted (w : World) (slots time : ℕ) (load : ℤ) (p : Plan) : Type 0 where
+  pub bounds : boundsGround (w .state) (length (w .nand)) (length (w .nor)) slots ≡ 0
+  pub suits : Suits (w .state) p
+  pub timely : time ≤ 999999999999999
+  pub load-ok : loadOk load ≡ true
+  pub is : meaning p ≡ planOf w load
 
 -- grounds 1 to 8 of an append
 unfoldable pub entryGround : State → ℕ → ℕ → ℕ → ℕ → ℤ → ℕ
@@ -40,6 +49,10 @@ laterGround w slots load p =
 -- the first append to the open serial drops the oldest closed segment
 abbrev pub dropsFirst : State → ℕ → Bool
 dropsFirst s slots = eqb (s .count) 0 && leb slots (s .current - s .oldest)
+
+-- the lift goes into the open segment as it is and fills no page
+unfoldable pub isPlain : State → ℕ → Tree.Plan → Bool
+isPlain s slots p = not ((isNoRoom p || dropsFirst s slots) || fillsPage s)
 
 -- that drop, if it is due, meets no damage
 unfoldable pub forcedGood : World → ℕ → Bool

@@ -17,9 +17,15 @@ ghost use Rattle.tree.specs.Plan.{noRoom, isDamaged, isNoRoom};
 ghost use Rattle.grow.specs.Meaning.{meaning, Fitting};
 ghost use Rattle.bounds.specs.Bounds.{loadsOk};
 ghost use Rattle.store.specs.World.{world, closeWorld, putWorld, pageWith, bloomWith, fillsPage, fillsSection};
-ghost use Rattle.store.specs.Calls.{answered, appendOutcome, boundsGround, dropDamage, planOf, roomWorld, norClear};
+ghost use Rattle.store.specs.Calls.{answered, appendGround, appendOutcome, boundsGround, dropDamage, planOf, roomWorld, norClear};
 ghost use Rattle.store.specs.Pieces as Pieces;
-ghost use Rattle.store.specs.Pieces.{Suits, laterGround, dropDue, stateGiven, entryGround};
+ghost use Rattle.store.specs.Pieces.{Suits, Accepted, isPlain, laterGround, dropDue, stateGiven, entryGround};
+
+// An append's number, and its plan where that is 0.
+pub struct Planned {
+    pub number: u8,
+    pub plan: Plan,
+}
 
 impl State {
     // Grounds 1 to 8.
@@ -274,7 +280,7 @@ impl State {
     }
 
     // Room for the lift, then the lift.
-    fn carried_out(
+    pub fn carried_out(
         self,
         nand: &mut [u8],
         nor: &mut [u8],
@@ -294,6 +300,35 @@ impl State {
         b.put(nand, nor, slots, time, load, note, p)
     }
 
+    // The grounds of an append, and its plan.
+    pub fn planned(self, nand: &[u8], nor: &[u8], slots: u64, time: u64, load: i32) -> Planned
+        ensures number { λ r. ⌜ r .number ≡ appendGround (world (now (nand .entry)) (now (nor .entry)) self) slots time load ⌝ }
+        ensures accepted { λ r. ⌜ (r .number ≡ 0
+            → Accepted (world (now (nand .entry)) (now (nor .entry)) self) slots time load (r .plan)) ⌝ }
+    {
+        let n = self.entry_ground(nand.len(), nor.len(), slots, time, load);
+        if n != 0 {
+            return Planned {
+                number: n,
+                plan: Plan::Damage,
+            };
+        }
+        let code = lift::stored(load);
+        let p = self.plan(nor, code);
+        let m = self.blocked(nand, nor, slots, code, p);
+        Planned { number: m, plan: p }
+    }
+
+    // The lift goes into the open segment as it is and fills no page, so no section either.
+    pub fn is_plain(self, slots: u64, p: Plan) -> bool
+        requires { ⌜ self .oldest ≤ self .current ⌝ }
+        ensures { λ r. ⌜ r ≡ isPlain self slots (meaning p) ⌝ }
+    {
+        let full = parts::is_full(p);
+        let drops = self.drops_first(slots);
+        !((full | drops) | (self.count % 16 == 15))
+    }
+
     pub fn append(
         self,
         nand: &mut [u8],
@@ -306,22 +341,15 @@ impl State {
         ensures { λ r. ⌜ answered (r .number) (now (nand .exit)) (now (nor .exit)) (r .state)
             ≡ appendOutcome (world (now (nand .entry)) (now (nor .entry)) self) slots time load note ⌝ }
     {
-        let n = self.entry_ground(nand.len(), nor.len(), slots, time, load);
-        if n != 0 {
-            return Answer {
-                number: n,
-                state: self,
-            };
-        }
-        let code = lift::stored(load);
-        let p = self.plan(nor, code);
-        let m = self.blocked(nand, nor, slots, code, p);
+        let a = self.planned(nand, nor, slots, time, load);
+        let m = a.number;
         if m != 0 {
             return Answer {
                 number: m,
                 state: self,
             };
         }
+        let p = a.plan;
         let s = self.carried_out(nand, nor, slots, time, load, note, p);
         Answer {
             number: 0,

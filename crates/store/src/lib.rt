@@ -1,6 +1,6 @@
 // The store (document 01, "State", "Segments", "Twelve grounds"): its state by value, and the calls as methods.
-mod append;
-mod parts;
+pub mod append;
+pub mod parts;
 mod queries;
 
 use flash::Page;

@@ -1,14 +1,20 @@
 // The calls for C and Rust: byte areas and numbers only. The state is a lent area of 775 bytes, the other answers are an area of
 // 8-byte numbers. Each call returns its number; 20 where one of these areas has another length, before everything else.
+use grow::Plan;
 use store::Answer;
 use store::State;
 ghost use mathlib.Core.Path.{_≡_};
+ghost use mathlib.Core.Bool.{true};
 ghost use mathlib.Core.List.{[]};
+ghost use Prim.Native.Nat.{_≤_};
 ghost use lib.ListN.{length};
 ghost use Rattle.codec.specs.Area.{splice};
-ghost use Rattle.codec.specs.Number.{bytes};
+ghost use Rattle.codec.specs.Number.{bytes, numberAt};
+ghost use Rattle.lift.specs.Limits.{loadOk, stored};
+ghost use Rattle.tree.specs.Writes.{writesOf, allWritten, bucketsAfter};
+ghost use Rattle.grow.specs.Meaning.{meaning, Fitting};
 ghost use Rattle.state_bytes.specs.Signed.{sideBySide};
-ghost use Rattle.state_bytes.specs.StateBytes.{stateBytes};
+ghost use Rattle.state_bytes.specs.StateBytes.{stateBytes, stateIn, withLift};
 ghost use Rattle.store_abi.specs.Areas.{left, kept, answered};
 ghost use Rattle.store_abi.specs.Areas.{formatCalled, appendCalled, closeCalled, dropCalled};
 ghost use Rattle.store_abi.specs.Areas.{searchCalled, tallyCalled, plateCalled};
@@ -77,6 +83,31 @@ pub extern "C" fn store_format(state: &mut [u8], nand: &mut [u8], nor: &mut [u8]
     keep_state(state, a)
 }
 
+// A plain lift goes straight into NOR and the area of the state; no page and no section goes out.
+fn put_plain(
+    state: &mut [u8],
+    nor: &mut [u8],
+    count: u16,
+    buckets: u8,
+    time: u64,
+    load: i32,
+    note: [u8; 20],
+    p: Plan,
+)
+    requires { ⌜ (length (now state) ≡ 775) × (numberAt (now state) 8 2 ≤ 320) × (4608 ≤ length (now nor)) × (buckets ≤ 36)
+        × Fitting buckets p ⌝ }
+    requires { ⌜ (time ≤ 999999999999999) × (loadOk load ≡ true) ⌝ }
+    ensures nor { λ _. ⌜ now (nor .exit) ≡ allWritten (now (nor .entry)) (writesOf (meaning p) buckets (stored load) count) ⌝ }
+    ensures state { λ _. ⌜ now (state .exit) ≡ stateBytes (withLift (stateIn (now (state .entry))) time (stored load) load note
+        (bucketsAfter (meaning p) buckets)) ⌝ }
+{
+    let code = lift::stored(load);
+    let w = grow::writes_of(p, buckets, code, count);
+    grow::carry(nor, w);
+    let after = grow::buckets_after(p, buckets);
+    state_bytes::in_place::put_lift(state, time, code, load, note, after);
+}
+
 #[no_mangle]
 pub extern "C" fn store_append(
     state: &mut [u8],
@@ -95,8 +126,19 @@ pub extern "C" fn store_append(
     }
     let n = *note;
     let s = state_bytes::get_state(state);
-    let a = s.append(nand, nor, slots, time, load, n);
-    keep_state(state, a)
+    let a = s.planned(nand, nor, slots, time, load);
+    let m = a.number;
+    if m != 0 {
+        return m;
+    }
+    let p = a.plan;
+    if s.is_plain(slots, p) {
+        put_plain(state, nor, s.count, s.buckets, time, load, n, p);
+        return 0;
+    }
+    let t = s.carried_out(nand, nor, slots, time, load, n, p);
+    state_bytes::put_state(state, t);
+    0
 }
 
 #[no_mangle]

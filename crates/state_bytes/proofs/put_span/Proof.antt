@@ -23,8 +23,8 @@ returns : tie.Need-returns
 returns c =
     let s = c .before .before .before .before .before .before .before .before .before .before .before .before .before .before .before .args .s in
     span-put _ _ _ _ s _ _ (omega arith)
-    (read-back (s .low) (s .low) (c .before .before .before .before .before .before .before .before .struct-told .given .1 .1 .1 .1 .1 .1 .1 .1 .1 .1 .1 .0 .1) refl)
-    (read-back (s .high) (s .high) (c .before .before .before .struct-told2 .given .1 .1 .1 .1 .1 .1 .1 .1 .1 .1 .1 .1 .0 .1) refl)
+    (read-back (s .low) (s .low) (c .before .before .before .before .before .before .before .before .struct-told .given .1 .0 .1) refl)
+    (read-back (s .high) (s .high) (c .before .before .before .struct-told2 .given .1 .1 .0 .1) refl)
     (c .before .before .before .before .before .before .before .before .before .before .before .before .put-u64 .ensures) (c .before .before .before .before .before .before .before .put-load .ensures) (c .before .before .put-load2 .ensures)
 
 pub put-span-spec : {M : Type 1} → statement M

@@ -1,0 +1,81 @@
+// A lift written straight into the area of the state, where no page and no section goes out.
+use crate::Counters;
+use crate::Span;
+ghost use mathlib.Core.Path.{_≡_};
+ghost use mathlib.Core.List.{List};
+ghost use Prim.Native.Nat.{ℕ, _+_, _≤_};
+ghost use lib.IntN.{ℤ};
+ghost use lib.ListN.{length};
+ghost use Rattle.codec.specs.Area.{splice};
+ghost use Rattle.codec.specs.Number.{numberAt};
+ghost use Rattle.lift.specs.Record.{recordBytes};
+ghost use Rattle.store.specs.Pieces.{stateGiven};
+ghost use Rattle.state_bytes.specs.StateBytes.{countersOf, spanOf, stateBytes, stateIn, withLift};
+
+// The fields before the heads after a lift.
+fn counters_after(b: &[u8], time: u64, buckets: u8) -> Counters
+    requires { ⌜ (length (now b) ≡ 775) × (numberAt (now b) 8 2 ≤ 320) × (time ≤ 999999999999999) ⌝ }
+    ensures { λ r. ⌜ ((load : ℤ) (page section : List ℕ) → r
+        ≡ countersOf (stateGiven (stateIn (now (b .entry))) time load buckets page section)) ⌝ }
+{
+    let oldest = codec::get_u32(b, crate::OLDEST_AT);
+    let current = codec::get_u32(b, crate::CURRENT_AT);
+    let count = codec::get_u16(b, crate::COUNT_AT);
+    let live = codec::get_u64(b, crate::LIVE_AT);
+    let after = store::parts::live_after(count, oldest, current, live, time);
+    Counters {
+        oldest: oldest,
+        current: current,
+        count: count + 1,
+        buckets: buckets,
+        next: time + 1,
+        live: after,
+    }
+}
+
+// Those behind the buffers.
+fn span_after(b: &[u8], time: u64, load: i32) -> Span
+    requires { ⌜ length (now b) ≡ 775 ⌝ }
+    ensures { λ r. ⌜ ((buckets : ℕ) (page section : List ℕ) → r
+        ≡ spanOf (stateGiven (stateIn (now (b .entry))) time load buckets page section)) ⌝ }
+{
+    let count = codec::get_u16(b, crate::COUNT_AT);
+    let start = codec::get_u64(b, crate::START_AT);
+    let low = crate::load_at(b, crate::LOW_AT);
+    let high = crate::load_at(b, crate::HIGH_AT);
+    let first = store::parts::start_after(count, start, time);
+    let lowest = bounds::low_after(count, low, load);
+    let highest = bounds::high_after(count, high, load);
+    Span {
+        start: first,
+        low: lowest,
+        high: highest,
+    }
+}
+
+fn put_record(b: &mut [u8], at: usize, time: u64, code: u32, note: [u8; 20])
+    requires { ⌜ at + 32 ≤ length (now b) ⌝ }
+    ensures { λ _. ⌜ now (b .exit) ≡ splice (now (b .entry)) at (recordBytes time code note) ⌝ }
+{
+    codec::put_u64(b, at, time);
+    codec::put_u32(b, at + 8, code);
+    codec::copy(b, at + 12, &note);
+}
+
+// The lift with its bucket count; its record and bits go into the buffers.
+pub fn put_lift(b: &mut [u8], time: u64, code: u32, load: i32, note: [u8; 20], buckets: u8)
+    requires { ⌜ (length (now b) ≡ 775) × (numberAt (now b) 8 2 ≤ 320) × (time ≤ 999999999999999) × (1 ≤ code) ⌝ }
+    ensures { λ _. ⌜ now (b .exit) ≡ stateBytes (withLift (stateIn (now (b .entry))) time code load note buckets) ⌝ }
+{
+    let n = codec::get_u16(b, crate::COUNT_AT);
+    let heads = skiplist::pointers_at(b, crate::HEADS_AT);
+    let old = crate::loads_at(b);
+    let loads = bounds::pushed(old, n, load);
+    let before = crate::bloom_at(b);
+    let section = bloom::note(before, code);
+    let c = counters_after(b, time, buckets);
+    let s = span_after(b, time, load);
+    let at = crate::PAGE_AT + (n as usize) % 16 * 32;
+    put_record(b, at, time, code, note);
+    crate::put_around(b, c, heads, loads, section, s);
+}
