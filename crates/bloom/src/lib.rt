@@ -67,9 +67,9 @@ pub fn fragment_of(sections: usize) -> usize
 }
 
 // Byte `from` of section j, with 0 past its end: a whole section is in NOR, a part-filled one in the buffer.
-fn section_byte(nor: &[u8], buffer: [u8; 128], count: u16, j: usize, from: usize) -> u8
-    requires { ⌜ (length (now nor) ≡ 6144) × (count ≤ 320) × (j < sectionCount count) ⌝ }
-    ensures { λ r. ⌜ r ≡ getD (getD (sectionsFrom (now (nor .entry)) buffer count) j []) from 0 ⌝ }
+fn section_byte(nor: &[u8], buffer: &[u8], count: u16, j: usize, from: usize) -> u8
+    requires { ⌜ (length (now nor) ≡ 6144) × (count ≤ 320) × (j < sectionCount count) × (length (now buffer) ≡ 128) ⌝ }
+    ensures { λ r. ⌜ r ≡ getD (getD (sectionsFrom (now (nor .entry)) (now (buffer .entry)) count) j []) from 0 ⌝ }
 {
     if 128 <= from {
         return 0;
@@ -81,9 +81,9 @@ fn section_byte(nor: &[u8], buffer: [u8; 128], count: u16, j: usize, from: usize
 }
 
 // Byte k of Bloom page i.
-fn page_byte(nor: &[u8], buffer: [u8; 128], count: u16, i: usize, k: usize) -> u8
-    requires { ⌜ (length (now nor) ≡ 6144) × (1 ≤ count) × (count ≤ 320) × (i < 2) × (k < 512) ⌝ }
-    ensures { λ r. ⌜ r ≡ getD (bloomPage (sectionsFrom (now (nor .entry)) buffer count) i) k 0 ⌝ }
+fn page_byte(nor: &[u8], buffer: &[u8], count: u16, i: usize, k: usize) -> u8
+    requires { ⌜ (length (now nor) ≡ 6144) × (1 ≤ count) × (count ≤ 320) × (i < 2) × (k < 512) × (length (now buffer) ≡ 128) ⌝ }
+    ensures { λ r. ⌜ r ≡ getD (bloomPage (sectionsFrom (now (nor .entry)) (now (buffer .entry)) count) i) k 0 ⌝ }
 {
     let s = sections_of(count);
     let l = fragment_of(s);
@@ -102,7 +102,7 @@ pub fn bloom_page(nor: &[u8], buffer: [u8; 128], count: u16, i: usize) -> [u8; 5
     let mut d = [0u8; 512];
     let mut k: usize = 0;
     while k < 512 {
-        let b = page_byte(nor, buffer, count, i, k);
+        let b = page_byte(nor, &buffer, count, i, k);
         d[k] = b;
         k += 1;
     }

@@ -3,7 +3,7 @@ ghost use mathlib.Core.Path.{_≡_};
 ghost use mathlib.Core.Bool.{true};
 ghost use Prim.Native.Nat.{_+_, _-_, _*_, _^_, _≤_, _<_};
 ghost use lib.ListN.{length};
-ghost use Rattle.codec.specs.Area.{splice};
+ghost use Rattle.codec.specs.Area.{part, splice};
 ghost use Rattle.lift.specs.Limits as Limits;
 ghost use Rattle.lift.specs.Record.{recordBytes, timeAt, codeAt};
 ghost use Rattle.lift.specs.Rows.{timeIn, codeIn, recordIn};
@@ -116,6 +116,17 @@ pub fn code_in(lifts: &[u8], tail: &[u8], first: usize, p: usize) -> u32
     record_code(tail, (p - first) * RECORD_BYTES)
 }
 
+// The 32 bytes from `at`.
+fn record_at(s: &[u8], at: usize) -> [u8; 32]
+    requires { ⌜ at + 32 ≤ length (now s) ⌝ }
+    ensures { λ r. ⌜ r ≡ part (now (s .entry)) at 32 ⌝ }
+{
+    let mut r = [0u8; 32];
+    let e = at + RECORD_BYTES;
+    codec::copy(&mut r, 0, &s[at..e]);
+    r
+}
+
 // The record of the lift at place p is copied to row `row` of the result area.
 pub fn put_row(area: &mut [u8], row: usize, lifts: &[u8], tail: &[u8], first: usize, p: usize)
     requires { ⌜ (p * 32 + 32 ≤ length (now lifts)) × ((p - first) * 32 + 32 ≤ length (now tail)) ⌝ }
@@ -125,12 +136,10 @@ pub fn put_row(area: &mut [u8], row: usize, lifts: &[u8], tail: &[u8], first: us
 {
     let at = row * RECORD_BYTES;
     if p < first {
-        let a = p * RECORD_BYTES;
-        let e = a + RECORD_BYTES;
-        codec::copy(area, at, &lifts[a..e]);
+        let early = record_at(lifts, p * RECORD_BYTES);
+        codec::copy(area, at, &early);
         return;
     }
-    let b = (p - first) * RECORD_BYTES;
-    let f = b + RECORD_BYTES;
-    codec::copy(area, at, &tail[b..f]);
+    let late = record_at(tail, (p - first) * RECORD_BYTES);
+    codec::copy(area, at, &late);
 }

@@ -13,11 +13,11 @@ fragment-of-requires c κs = search needs
 
 -- the bounds, once the fragment length is known
 bounds : (c : tie.After-fragment-of)
-    → Place (c .before .before .before .args .i) (c .before .before .before .args .k) (c .fragment-of .result)
+    → Place (c .before .before .before .before .args .i) (c .before .before .before .before .args .k) (c .fragment-of .result)
 bounds c =
-    let a = c .before .before .before .args in
-    let p = c .before .before .before .pre in
-    place (a .nor .now) (a .buffer) (a .count) (a .i) (p .1) (p .2) (a .k) (c .before .sections-of .result)
+    let a = c .before .before .before .before .args in
+    let p = c .before .before .before .before .pre in
+    place (a .nor .now) (a .buffer .now) (a .count) (a .i) (p .1) (p .2) (a .k) (c .before .sections-of .result)
     (c .fragment-of .result) (c .before .sections-of .ensures) (c .fragment-of .ensures) (p .3)
 
 div-j : tie.Need-div-j
@@ -25,9 +25,9 @@ div-j c = bounds c .some
 
 returns : tie.Need-returns
 returns c =
-    let a = c .before .before .before .before .args in
-    let p = c .before .before .before .before .pre in
-    byte-outside (a .nor .now) (a .buffer) (a .count) (a .i) (p .1) (p .2) (a .k) _ _
+    let a = c .before .before .before .before .before .args in
+    let p = c .before .before .before .before .before .pre in
+    byte-outside (a .nor .now) (a .buffer .now) (a .count) (a .i) (p .1) (p .2) (a .k) _ _
     (c .before .before .sections-of .ensures) (c .before .fragment-of .ensures) (c .if1 .taken)
 
 mul-section-byte : tie.Need-mul-section-byte
@@ -44,9 +44,9 @@ section-byte-requires c κs = search needs
 
 returns-2 : tie.Need-returns-2
 returns-2 c =
-    let a = c .before .before .before .before .before .args in
-    let p = c .before .before .before .before .before .pre in
-    byte-inside (a .nor .now) (a .buffer) (a .count) (a .i) (p .1) (p .2) (a .k) _ _
+    let a = c .before .before .before .before .before .before .args in
+    let p = c .before .before .before .before .before .before .pre in
+    byte-inside (a .nor .now) (a .buffer .now) (a .count) (a .i) (p .1) (p .2) (a .k) _ _
     (c .before .before .before .sections-of .ensures) (c .before .before .fragment-of .ensures) _ (c .section-byte .ensures)
 
 pub page-byte-spec : {M : Type 1} → statement M

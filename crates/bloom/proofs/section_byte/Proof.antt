@@ -12,10 +12,9 @@ use Rattle.bloom.proofs.section_byte.Tie as tie
 returns : tie.Need-returns
 returns c =
     let a = c .before .args in
-    let n : length (a .t2) ≡ 128 = search needs in
     let p = c .before .pre in
-    let l = length-section (a .nor .now) (a .t2) (a .count) (a .j) (p .0) n (p .1) (p .2) in
-    sym (List·getD-eq-default (getD (sectionsFrom (a .nor .now) (a .t2) (a .count)) (a .j) []) 0 {n = a .from} (omega arith))
+    let l = length-section (a .nor .now) (a .buffer .now) (a .count) (a .j) (p .0) (p .3) (p .1) (p .2) in
+    sym (List·getD-eq-default (getD (sectionsFrom (a .nor .now) (a .buffer .now) (a .count)) (a .j) []) 0 {n = a .from} (omega arith))
 
 add-if2 : tie.Need-add-if2
 add-if2 c = search needs
@@ -38,15 +37,15 @@ shared-slice-read-result c = search needs
 returns-2 : tie.Need-returns-2
 returns-2 c =
     let a = c .before .before .before .args in
-    byte-in-nor (a .nor .now) (a .t2) (a .count) (a .j) (a .from) (omega arith) (omega arith)
+    byte-in-nor (a .nor .now) (a .buffer .now) (a .count) (a .j) (a .from) (omega arith) (omega arith)
 
-array-read-result : tie.Need-array-read-result
-array-read-result c = search needs
+shared-slice-read-result-2 : tie.Need-shared-slice-read-result-2
+shared-slice-read-result-2 c = search needs
 
 returns-3 : tie.Need-returns-3
 returns-3 c =
-    let a = c .before .before .args in
-    byte-in-buffer (a .nor .now) (a .t2) (a .count) (a .j) (a .from) (omega arith) (omega arith)
+    let a = c .before .before .before .args in
+    byte-in-buffer (a .nor .now) (a .buffer .now) (a .count) (a .j) (a .from) (omega arith) (omega arith)
 
 pub section-byte-spec : {M : Type 1} → statement M
 section-byte-spec =
@@ -60,5 +59,5 @@ section-byte-spec =
     add-result-2
     shared-slice-read-result
     returns-2
-    array-read-result
+    shared-slice-read-result-2
     returns-3)
