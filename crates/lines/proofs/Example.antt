@@ -4,11 +4,11 @@ use mathlib.Core.List.{List, [], _∷_, _++_}
 use Prim.Native.Nat.{ℕ}
 use lib.IntN.{pos}
 use lib.ListN.{replicate}
-use Rattle.codec.specs.Area.{part}
+use Rattle.codec.specs.Area.{part, repeated}
 use Rattle.lines.specs.declared.Line.the-variants.{Append, Search}
 use Rattle.lines.specs.Columns.{readOn, readFrom}
-use Rattle.lines.specs.Forms.{appendLine, searchLine, hasForm, lineOf}
-use Rattle.lines.specs.Printed.{columnsOf, headBytes, countBytes, loadBytes, liftBytes}
+use Rattle.lines.specs.Forms.{appendLine, searchLine, windowLine, hasForm, lineOf}
+use Rattle.lines.specs.Printed.{digits, digitsWithin, justified, headBytes, countBytes, loadBytes, liftBytes}
 
 abbrev spaces : ℕ → List ℕ → List ℕ
 spaces n l = replicate n 32 ++ l
@@ -32,5 +32,5 @@ pub printed :
     (headBytes 65 0 ≡ 65 ∷ 32 ∷ 32 ∷ 48 ∷ [])
     × (headBytes 81 0 ++ countBytes 1 ≡ 81 ∷ 32 ∷ 32 ∷ 48 ∷ spaces 6 (49 ∷ []))
     × (liftBytes 2000 (pos 751) ≡ spaces 11 (50 ∷ 48 ∷ 48 ∷ 48 ∷ spaces 5 (55 ∷ 53 ∷ 49 ∷ [])))
-unfolding columnsOf loadBytes
+unfolding digits digitsWithin justified repeated loadBytes
 printed = (refl, refl, refl)

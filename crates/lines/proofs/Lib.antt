@@ -1,5 +1,6 @@
 pub mod Reading
 pub mod Forms
+pub mod Justified
 pub mod Printing
 pub mod ReadBack
 pub mod Example

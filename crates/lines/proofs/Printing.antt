@@ -15,7 +15,9 @@ use Rattle.codec.proofs.Areas.{splice-next}
 use Rattle.lift.specs.Limits.{loadOf}
 use Rattle.lift.proofs.Differences as D
 use Rattle.lines.specs.declared.Pen.{Pen}
-use Rattle.lines.specs.Printed.{penByte, penNext, columnsOf, columns, countBytes, countsBytes, loadBytes}
+use Rattle.lines.specs.Printed.{columns, number, countBytes, countsBytes, loadBytes}
+use Rattle.lines.specs.Pen.{penByte, penNext, columnsOf}
+use Rattle.lines.proofs.Justified.{length-justified}
 
 pub length-columns : (w : ℕ) (p : Pen) → length (columnsOf w p) ≡ w
 unfolding columnsOf
@@ -64,7 +66,7 @@ pub count-step : (s ns : List ℕ) (i : ℕ) → i < length ns → 4 + 7 * (i + 
     ≡ splice s (4 + 7 * i) (countsBytes (drop i ns))
 unfolding countsBytes
 count-step s ns i h k =
-    let l : length (countBytes (getD ns i 0)) ≡ 7 = length-columns 7 _ in
+    let l : length (countBytes (getD ns i 0)) ≡ 7 = length-justified 7 _ in
     rw (add-one i, drop-cons ns i 0)
     (splice-next s (4 + 7 * i) (countBytes (getD ns i 0)) (4 + 7 * suc i) (countsBytes (drop (suc i) ns)) (omega arith)
     (omega arith))
@@ -98,9 +100,9 @@ head-printed s b p h =
 
 -- a time, and a load after it
 pub lift-printed : (s : List ℕ) (time code : ℕ) → 23 ≤ length s
-    → splice (splice s 0 (columns 15 false time)) 15
+    → splice (splice s 0 (number 15 time)) 15
     (columns 8 (ltb code 50001) (cond (ltb code 50001) (50001 - code) (code - 50001)))
-    ≡ splice s 0 (columns 15 false time ++ loadBytes (loadOf code))
+    ≡ splice s 0 (number 15 time ++ loadBytes (loadOf code))
 lift-printed s time code h =
-    let l : length (columns 15 false time) ≡ 15 = length-columns 15 _ in
-    rw (load-printed code) (splice-next s 0 (columns 15 false time) 15 (loadBytes (loadOf code)) (omega arith) (omega arith))
+    let l : length (number 15 time) ≡ 15 = length-justified 15 _ in
+    rw (load-printed code) (splice-next s 0 (number 15 time) 15 (loadBytes (loadOf code)) (omega arith) (omega arith))

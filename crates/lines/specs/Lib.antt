@@ -1,3 +1,5 @@
 pub mod Columns
 pub mod Forms
 pub mod Printed
+pub mod Pen
+pub mod Page
