@@ -2,5 +2,6 @@ pub mod Reading
 pub mod Forms
 pub mod Justified
 pub mod Printing
+pub mod PageWritten
 pub mod ReadBack
 pub mod Example

@@ -88,15 +88,14 @@ load-printed code = D.by-sign code 50001 (λ z. columns 8 (ltb code 50001) (cond
     (λ n e. let t : ltb code 50001 ≡ true = lt-ltb code 50001 (omega arith) in
     let v : 50001 - code ≡ suc n = omega arith in rw (t, v))
 
-set-first : (s : List ℕ) (b : ℕ) → 0 < length s → set s 0 b ≡ splice s 0 (b ∷ [])
-unfolding splice
-set-first [] b h = absurd (omega arith)
-set-first (x ∷ s) b h = refl
+-- a byte stored is a splice
+pub byte-stored : (s : List ℕ) (k b : ℕ) → k < length s → set s k b ≡ splice s k (b ∷ [])
+byte-stored s k b h = sym (splice-none (set s k b) k [] refl) ∙ splice-last s k [] b k (omega arith) h
 
 -- a first byte, and what is put after it, are one splice
 pub head-printed : (s : List ℕ) (b : ℕ) (p : List ℕ) → 1 + length p ≤ length s → splice (set s 0 b) 1 p ≡ splice s 0 (b ∷ p)
 head-printed s b p h =
-    ap (λ (t : List ℕ). splice t 1 p) (set-first s b (omega arith)) ∙ splice-next s 0 (b ∷ []) 1 p refl (omega arith)
+    ap (λ (t : List ℕ). splice t 1 p) (byte-stored s 0 b (omega arith)) ∙ splice-next s 0 (b ∷ []) 1 p refl (omega arith)
 
 -- a time, and a load after it
 pub lift-printed : (s : List ℕ) (time code : ℕ) → 23 ≤ length s

@@ -1,3 +1,4 @@
 pub mod Bands
 pub mod Counts
 pub mod Lookups
+pub mod Totals
