@@ -3,3 +3,4 @@ pub mod Forms
 pub mod Printed
 pub mod Pen
 pub mod Page
+pub mod PageRead
