@@ -4,4 +4,5 @@ pub mod Justified
 pub mod Printing
 pub mod PageWritten
 pub mod ReadBack
+pub mod PageShown
 pub mod Example

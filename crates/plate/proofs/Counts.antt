@@ -12,6 +12,7 @@ use borrow.Author.Tests.{eqb-true, eqb-false}
 use Rattle.lift.specs.Limits.{loadOf}
 use Rattle.plate.specs.Plate.{plateOf, countAt, countsFrom, countsOf, noCounts, countedIn, total}
 use Rattle.plate.proofs.Bands.{plate-small}
+use Rattle.plate.proofs.Totals.{total-more}
 
 -- ---- a count
 
@@ -95,13 +96,6 @@ counts-more codes code =
 
 -- ---- the lifts of all plates together
 
--- one lift more at a place is one more in all
-total-more : (counts : List ℕ) (p : ℕ) → p < length counts → total (set counts p (getD counts p 0 + 1)) ≡ suc (total counts)
-unfolding total
-total-more [] p h = absurd (omega arith)
-total-more (n ∷ counts) zero h = omega arith
-total-more (n ∷ counts) (suc p) h = let r = total-more counts p (omega arith) in omega arith
-
 pub total-none : total noCounts ≡ 0
 unfolding total
 total-none = refl
@@ -115,10 +109,3 @@ counts-total (code ∷ codes) =
     ap total (sym (counts-more codes code))
     ∙ total-more (countsOf codes) (plateOf (loadOf code)) (omega (arith, plate-small (loadOf code)))
     ∙ ap suc r
-
--- no plate has more than all together
-pub place-total : (counts : List ℕ) (i : ℕ) → getD counts i 0 ≤ total counts
-unfolding total
-place-total [] i = omega arith
-place-total (n ∷ counts) zero = omega arith
-place-total (n ∷ counts) (suc i) = let r = place-total counts i in omega arith

@@ -1,29 +1,30 @@
--- Counts added up, from one place on: no place has more than they come to together. Assumes nothing.
-use mathlib.Core.Path.{_≡_, refl, sym, ap, _∙_}
+-- Counts added up: no place has more than they come to together, and one more at a place is one more in all. Assumes nothing.
+use mathlib.Core.Path.{_≡_, refl}
 use mathlib.Core.List.{List, [], _∷_, _++_}
 use Prim.Native.Nat.{ℕ, zero, suc, _+_, _≤_, _<_}
 use native.Mathlib.Omega.{arith}
-use lib.ListN.{length, getD, drop}
+use lib.ListN.{length, getD, set, drop}
 use lib.Seq.{drop-cons, drop-length}
 use Rattle.plate.specs.Plate.{total}
 
--- one place, and those after it
-pub total-from : (ns : List ℕ) (i : ℕ) → i < length ns → total (drop i ns) ≡ getD ns i 0 + total (drop (suc i) ns)
-unfolding total
-total-from ns i h = rw (drop-cons ns i 0 h)
-
--- past the last place
-pub total-none : (ns : List ℕ) (i : ℕ) → length ns ≡ i → total (drop i ns) ≡ 0
-unfolding total
-total-none ns i e = let d : drop i ns ≡ [] = rw (← e) (drop-length ns) in rw d
-
-pub place-total : (ns : List ℕ) (i : ℕ) → getD ns i 0 ≤ total ns
+pub place-total : (counts : List ℕ) (i : ℕ) → getD counts i 0 ≤ total counts
 unfolding total
 place-total [] i = omega arith
-place-total (n ∷ ns) zero = omega arith
-place-total (n ∷ ns) (suc i) = omega (arith, place-total ns i)
+place-total (n ∷ counts) zero = omega arith
+place-total (n ∷ counts) (suc i) = omega (arith, place-total counts i)
 
-pub total-append : (a b : List ℕ) → total (a ++ b) ≡ total a + total b
+pub total-more : (counts : List ℕ) (p : ℕ) → p < length counts → total (set counts p (getD counts p 0 + 1)) ≡ suc (total counts)
 unfolding total
-total-append [] b = omega arith
-total-append (n ∷ a) b = omega (arith, total-append a b)
+total-more [] p h = absurd (omega arith)
+total-more (n ∷ counts) zero h = omega arith
+total-more (n ∷ counts) (suc p) h = omega (arith, total-more counts p (omega arith))
+
+-- ---- from one place on
+
+pub total-from : (counts : List ℕ) (i : ℕ) → i < length counts → total (drop i counts) ≡ getD counts i 0 + total (drop (suc i) counts)
+unfolding total
+total-from counts i h = rw (drop-cons counts i 0 h)
+
+pub total-past : (counts : List ℕ) (i : ℕ) → length counts ≡ i → total (drop i counts) ≡ 0
+unfolding total
+total-past counts i e = let d : drop i counts ≡ [] = rw (← e) (drop-length counts) in rw d

@@ -5,7 +5,7 @@ use native.Mathlib.Numerals.{add-one}
 use lib.ListN.{length, getD, drop}
 use lib.Seq.{drop-length}
 use Rattle.plate.specs.Plate.{total}
-use Rattle.plate.proofs.Totals.{total-from, total-none}
+use Rattle.plate.proofs.Totals.{total-from, total-past}
 use native.Mathlib.Omega.{arith}
 use borrow.Author.Needs.{needs}
 use Rattle.lines.proofs.page.total_of.Statement.{statement}
@@ -48,7 +48,7 @@ returns : tie.Need-returns Inv-loop μ-loop
 returns c =
     let n : length (c .before .before .args .t1) ≡ 21 = search needs in
     let e : length (c .before .before .args .t1) ≡ c .before .loop .i = omega arith in
-    let z = total-none (c .before .before .args .t1) (c .before .loop .i) e in
+    let z = total-past (c .before .before .args .t1) (c .before .loop .i) e in
     omega arith
 
 pub total-of-spec : {M : Type 1} → statement M
