@@ -14,6 +14,8 @@ const LINE_FEED: u8 = 10;
 const PLATES: usize = 21;
 // "a page 40 columns wide", and a line feed
 const LINE_BYTES: usize = 41;
+// A heading, a line for each plate and a total.
+pub const PAGE_BYTES: usize = 943;
 
 fn end_line(s: &mut [u8], at: usize)
     requires { ⌜ at + 41 ≤ length (now s) ⌝ }

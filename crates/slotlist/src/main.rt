@@ -1,4 +1,4 @@
-// slotlist (document 01, "Program"): lines on standard input, calls of a store of two slots, answers on standard output.
+// slotlist (document 01, "Program"; P: document 02, W-201): lines on standard input, calls of a store of two slots, answers on standard output.
 // What a line says and how an answer is laid out is the crate lines'; what a call does is the crate store's. No contract can say
 // what is read or written: the contracts here say what a run of bytes does to chips and state (`feed`), and keep the areas
 // within their bounds.
@@ -10,6 +10,7 @@ ghost use mathlib.Core.Path.{_≡_};
 ghost use Prim.Native.Nat.{_+_, _*_, _≤_};
 ghost use lib.ListN.{length, take};
 ghost use Rattle.lines.specs.Forms.{lineOf};
+ghost use Rattle.plate.specs.Plate.{total};
 ghost use Rattle.store.specs.World.{world};
 ghost use Rattle.slotlist.specs.Obeyed.{obeyed, desk, kept, typed, typedAll};
 
@@ -28,6 +29,8 @@ const LETTER_A: u8 = 65;
 const LETTER_C: u8 = 67;
 
 const LETTER_G: u8 = 71;
+
+const LETTER_P: u8 = 80;
 
 const LETTER_Q: u8 = 81;
 
@@ -114,6 +117,21 @@ fn say_tally(t: Tally) {
     io::write_all(1, &o);
 }
 
+// Prints a tally's service page: its number, and the page if it is accepted.
+fn say_page(t: Tally, t1: u64, t2: u64)
+    requires { ⌜ total (t .counts) ≤ 1311040 ⌝ }
+{
+    let n = t.number;
+    say(LETTER_P, n);
+    if n != 0 {
+        return;
+    }
+    let counts = t.counts;
+    let mut o = [LINE_FEED; lines::page::PAGE_BYTES];
+    lines::page::put_page(&mut o, t1, t2, counts);
+    io::write_all(1, &o);
+}
+
 // Searches, and prints what was found.
 fn search(nand: &[u8], nor: &[u8], area: &mut [u8], s: State, t1: u64, t2: u64, k1: i32, k2: i32) {
     let f = s.search(nand, nor, SLOTS, t1, t2, k1, k2, area);
@@ -150,6 +168,10 @@ fn obey(nand: &mut [u8], nor: &mut [u8], area: &mut [u8], s: State, line: &[u8])
         }
         Line::Tally(t1, t2) => {
             say_tally(s.tally(nand, nor, SLOTS, t1, t2));
+            s
+        }
+        Line::Page(t1, t2) => {
+            say_page(s.tally(nand, nor, SLOTS, t1, t2), t1, t2);
             s
         }
         Line::Other => {
