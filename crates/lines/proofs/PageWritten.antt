@@ -139,17 +139,24 @@ page-text t1 t2 counts =
     (ap (λ (l : List ℕ). textOf plates ++ l) (sym (append-nil last)) ∙ sym (text-append plates (totalLine (total counts) ∷ [])))
 
 -- heading, plates and total
-pub page-written : (s : List ℕ) (t1 t2 : ℕ) (counts : List ℕ) → length counts ≡ 21 → 943 ≤ length s
-    → splice (splice (splice s 0 (heading t1 t2 ++ (10 ∷ []))) 41 (textOf (plateLines counts 21))) 902
+pub page-written : (s : List ℕ) (at t1 t2 : ℕ) (counts : List ℕ) → length counts ≡ 21 → at + 943 ≤ length s
+    → splice (splice (splice s at (heading t1 t2 ++ (10 ∷ []))) (at + 41) (textOf (plateLines counts 21))) (at + 902)
     (totalLine (total counts) ++ (10 ∷ []))
-    ≡ splice s 0 (pageOf t1 t2 counts)
-page-written s t1 t2 counts n h =
+    ≡ splice s at (pageOf t1 t2 counts)
+page-written s at t1 t2 counts n h =
     let first : List ℕ = heading t1 t2 ++ (10 ∷ []) in
     let plates : List ℕ = textOf (plateLines counts 21) in
+    let last : List ℕ = totalLine (total counts) ++ (10 ∷ []) in
     let a : length first ≡ 41 = length-append (heading t1 t2) (10 ∷ []) ∙ omega (arith, length-heading t1 t2) in
     let b : length (first ++ plates) ≡ 902 = length-append first plates ∙ omega (arith, length-plates counts 21) in
-    let last : List ℕ = totalLine (total counts) ++ (10 ∷ []) in
     let e : first ++ textOf (plateLines counts (length counts)) ++ last ≡ pageOf t1 t2 counts = page-text t1 t2 counts in
-    ap (λ (t : List ℕ). splice t 902 last) (splice-next s 0 first 41 plates (omega arith) (omega arith))
-    ∙ splice-next s 0 (first ++ plates) 902 last (omega arith) (omega arith)
-    ∙ ap (splice s 0) (rw n at e)
+    ap (λ (t : List ℕ). splice t (at + 902) last) (splice-next s at first (at + 41) plates (omega arith) (omega arith))
+    ∙ splice-next s at (first ++ plates) (at + 902) last (omega arith) (omega arith)
+    ∙ ap (splice s at) (rw n at e)
+
+-- a page of 21 plates has 23 lines
+pub length-page : (t1 t2 : ℕ) (counts : List ℕ) → length counts ≡ 21 → length (pageOf t1 t2 counts) ≡ 943
+length-page t1 t2 counts n =
+    let a = length-heading t1 t2 in
+    let b = length-total (total counts) in
+    rw (← page-text t1 t2 counts) (simp length-append (omega (arith, length-plates counts (length counts))))

@@ -70,8 +70,11 @@ numeral-read v false = digits-read (suc v) v false (omega arith)
 -- a number that fits its columns
 pub reads-back : (w v : ℕ) (minus : Bool) → length (numeral minus v) ≤ w → fieldIn (columns w minus v) ≡ Digits minus v
 reads-back w v minus h =
-    rw (justified-fits w (numeral minus v) h, read-append Spaces (spaces (w - length (numeral minus v))) (numeral minus v),
-    blank (w - length (numeral minus v)))
+    rw (
+      justified-fits w (numeral minus v) h,
+      read-append Spaces (spaces (w - length (numeral minus v))) (numeral minus v),
+      blank (w - length (numeral minus v)),
+    )
     (numeral-read v minus)
 
 -- one of at most j digits, with room for its sign

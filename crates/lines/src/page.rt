@@ -14,8 +14,6 @@ const LINE_FEED: u8 = 10;
 const PLATES: usize = 21;
 // "a page 40 columns wide", and a line feed
 const LINE_BYTES: usize = 41;
-// A heading, a line for each plate and a total.
-pub const PAGE_BYTES: usize = 943;
 
 fn end_line(s: &mut [u8], at: usize)
     requires { ⌜ at + 41 ≤ length (now s) ⌝ }
@@ -99,13 +97,13 @@ fn total_of(counts: [u64; PLATES]) -> u64
     sum
 }
 
-// The page of a window and its counts. The percentages want room for 100 times a count.
-pub fn put_page(s: &mut [u8], t1: u64, t2: u64, counts: [u64; PLATES])
-    requires { ⌜ (943 ≤ length (now s)) × (total counts < 2 ^ 57) ⌝ }
-    ensures { λ _. ⌜ now (s .exit) ≡ splice (now (s .entry)) 0 (Page.pageOf t1 t2 counts) ⌝ }
+// The page of a window and its counts, from `at`. The percentages want room for 100 times a count.
+pub fn put_page(s: &mut [u8], at: usize, t1: u64, t2: u64, counts: [u64; PLATES])
+    requires { ⌜ (at + 943 ≤ length (now s)) × (total counts < 2 ^ 57) ⌝ }
+    ensures { λ _. ⌜ now (s .exit) ≡ splice (now (s .entry)) at (Page.pageOf t1 t2 counts) ⌝ }
 {
     let all = total_of(counts);
-    put_heading(s, 0, t1, t2);
-    put_plates(s, LINE_BYTES, counts, all);
-    put_total(s, 902, all);
+    put_heading(s, at, t1, t2);
+    put_plates(s, at + LINE_BYTES, counts, all);
+    put_total(s, at + 902, all);
 }

@@ -10,9 +10,10 @@ ghost use mathlib.Core.Path.{_≡_};
 ghost use Prim.Native.Nat.{_+_, _*_, _≤_};
 ghost use lib.ListN.{length, take};
 ghost use Rattle.lines.specs.Forms.{lineOf};
-ghost use Rattle.plate.specs.Plate.{total};
 ghost use Rattle.store.specs.World.{world};
+ghost use Rattle.store.specs.Queries.{tallyOutcome};
 ghost use Rattle.slotlist.specs.Obeyed.{obeyed, desk, kept, typed, typedAll};
+ghost use Rattle.slotlist.specs.ServicePage.{pageAnswer, PagePut};
 
 const SLOTS: u64 = 2;
 
@@ -37,6 +38,8 @@ const LETTER_Q: u8 = 81;
 const LETTER_T: u8 = 84;
 
 const LINE_FEED: u8 = 10;
+// Letter and number, and the 23 lines of a page, each with its line feed.
+const PAGE_ANSWER_BYTES: usize = 948;
 // The longest form has 47 bytes; one byte more is of no form, and what follows is not kept.
 const LINE_BYTES: usize = 48;
 
@@ -117,19 +120,29 @@ fn say_tally(t: Tally) {
     io::write_all(1, &o);
 }
 
-// Prints a tally's service page: its number, and the page if it is accepted.
-fn say_page(t: Tally, t1: u64, t2: u64)
-    requires { ⌜ total (t .counts) ≤ 1311040 ⌝ }
+// What a P line prints, from the area's start, and how many bytes it has.
+fn page_answer(o: &mut [u8], nand: &[u8], nor: &[u8], s: State, t1: u64, t2: u64) -> usize
+    requires { ⌜ 948 ≤ length (now o) ⌝ }
+    ensures { λ r. ⌜ PagePut (now (o .entry)) (now (o .exit)) r
+        (pageAnswer (tallyOutcome (world (now (nand .entry)) (now (nor .entry)) s) 2 t1 t2) t1 t2) ⌝ }
 {
+    let t = s.tally(nand, nor, SLOTS, t1, t2);
     let n = t.number;
-    say(LETTER_P, n);
-    if n != 0 {
-        return;
-    }
     let counts = t.counts;
-    let mut o = [LINE_FEED; lines::page::PAGE_BYTES];
-    lines::page::put_page(&mut o, t1, t2, counts);
-    io::write_all(1, &o);
+    lines::put_head(o, LETTER_P, n);
+    o[4] = LINE_FEED;
+    if n != 0 {
+        return 5;
+    }
+    lines::page::put_page(o, 5, t1, t2, counts);
+    PAGE_ANSWER_BYTES
+}
+
+// Prints a tally's service page.
+fn say_page(nand: &[u8], nor: &[u8], s: State, t1: u64, t2: u64) {
+    let mut o = [LINE_FEED; PAGE_ANSWER_BYTES];
+    let n = page_answer(&mut o, nand, nor, s, t1, t2);
+    io::write_all(1, &o[..n]);
 }
 
 // Searches, and prints what was found.
@@ -171,7 +184,7 @@ fn obey(nand: &mut [u8], nor: &mut [u8], area: &mut [u8], s: State, line: &[u8])
             s
         }
         Line::Page(t1, t2) => {
-            say_page(s.tally(nand, nor, SLOTS, t1, t2), t1, t2);
+            say_page(nand, nor, s, t1, t2);
             s
         }
         Line::Other => {

@@ -4,7 +4,6 @@ use mir.Syntax.{w32}
 use mir.Val.{toZ, ofZ}
 use mir.ValLaws.{toZ-ofZ}
 use Rattle.slotlist.proofs.Obeying.{append-obeyed, close-obeyed, drop-obeyed, search-obeyed, tally-obeyed, page-obeyed, other-obeyed}
-use Rattle.slotlist.proofs.ServicePage.{counts-fit}
 use native.Mathlib.Omega.{arith}
 use borrow.Author.Needs.{needs}
 use Rattle.slotlist.proofs.obey.Statement.{statement}
@@ -58,11 +57,8 @@ say-tally-requires c κs = search needs
 enum-known-l-4 : tie.Need-enum-known-l-4
 enum-known-l-4 c = search needs
 
-tally-requires-2 : tie.Need-tally-requires-2
-tally-requires-2 c κs = search needs
-
 say-page-requires : tie.Need-say-page-requires
-say-page-requires c κs = counts-fit _ _ _ _ (c .tally2 .ensures)
+say-page-requires c κs = search needs
 
 enum-told-3 : tie.Need-enum-told-3
 enum-told-3 c = search needs
@@ -144,7 +140,7 @@ same-length-13 c = search needs
 
 returns-6 : tie.Need-returns-6
 returns-6 c =
-    let k = c .before .before .before .before .before in
+    let k = c .before .before .before .before in
     page-obeyed _ _ (k .before .before .parse .ensures) (k .l4 .given .1)
 
 returns-7 : tie.Need-returns-7
@@ -172,7 +168,6 @@ obey-spec =
     tally-requires
     say-tally-requires
     enum-known-l-4
-    tally-requires-2
     say-page-requires
     enum-told-3
     slice-aggregate-write-all

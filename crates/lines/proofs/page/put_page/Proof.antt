@@ -16,8 +16,14 @@ total-of-requires c κs = search needs
 put-heading-requires : tie.Need-put-heading-requires
 put-heading-requires c κs = search needs
 
+add-put-plates : tie.Need-add-put-plates
+add-put-plates c = search needs
+
 put-plates-requires : tie.Need-put-plates-requires
 put-plates-requires c κs = search needs
+
+add-put-total : tie.Need-add-put-total
+add-put-total c = search needs
 
 put-total-requires : tie.Need-put-total-requires
 put-total-requires c κs = search needs
@@ -33,7 +39,7 @@ returns c =
     let all = first .before .before in
     let start = all .before .before in
     rw (last .put-total .ensures, plates .put-plates .ensures, first .put-heading .ensures, all .total-of .ensures)
-    (page-written _ _ _ (start .args .counts) (counts-long start) (start .pre .0))
+    (page-written _ _ _ _ (start .args .counts) (counts-long start) (start .pre .0))
 
 pub put-page-spec : {M : Type 1} → statement M
 put-page-spec =
@@ -41,7 +47,9 @@ put-page-spec =
     (tie.spec
     total-of-requires
     put-heading-requires
+    add-put-plates
     put-plates-requires
+    add-put-total
     put-total-requires
     same-length
     returns)

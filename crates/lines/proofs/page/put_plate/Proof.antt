@@ -43,8 +43,14 @@ returns c =
     let count = share .before .before .before .before in
     let plate = count .before .before .before .before in
     let p = plate .before .before in
-    rw (e .end-line .ensures, rest .fill .ensures, share .put-number3 .ensures, count .put-number2 .ensures, plate .put-number .ensures,
-    p .percentage .ensures)
+    rw (
+      e .end-line .ensures,
+      rest .fill .ensures,
+      share .put-number3 .ensures,
+      count .put-number2 .ensures,
+      plate .put-number .ensures,
+      p .percentage .ensures,
+    )
     (plate-written _ _ (p .before .before .pre .0) _ _ _)
 
 pub put-plate-spec : {M : Type 1} → statement M
