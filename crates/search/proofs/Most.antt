@@ -24,7 +24,7 @@ use Rattle.walk.specs.Visit.{isPassed, cursorAfter, closedOf, advanceOf, closed
 use Rattle.walk.specs.Sound.{Sound, LogSound}
 use Rattle.walk.proofs.Hops.{start-begun}
 use Rattle.walk.proofs.Steps.{StepFacts, step-facts}
-use Rattle.search.specs.Found.{joinRows, rowsFrom, closedFound, foundRows}
+use Rattle.search.specs.Found.{joinRows, rowsFrom, closedFound, foundRows, mostFound}
 use Rattle.search.proofs.Matched.{FewIn, closed-few, open-few}
 use Rattle.search.proofs.Segments.{after, from-step}
 
@@ -164,7 +164,7 @@ module _ (nand : List ℕ) (slots live : ℕ) (q : Query) (size : length nand �
 
 -- all segments
 pub found-most : (nand nor page : List ℕ) (g : Log) (q : Query) → LogSound nand nor g → (rows : List (List ℕ))
-    → foundRows nand nor page g q ≡ some rows → length rows ≤ (g .slots + 1) * 320
+    → foundRows nand nor page g q ≡ some rows → length rows ≤ mostFound (g .slots)
 unfolding foundRows
 found-most nand nor page g q sound rows e =
     let m = rw e at (most-join (320 * g .slots) (closedFound nand g q c) (openRows nand nor page g q) (closed (c .good))

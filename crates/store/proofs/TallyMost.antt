@@ -4,7 +4,7 @@ use mathlib.Core.Path.{_≡_, refl}
 use mathlib.Core.Bool.{Bool, true, false, cond, not, _&&_}
 use mathlib.Core.Option.{Option, none, some}
 use mathlib.Core.List.{List}
-use Prim.Native.Nat.{ℕ, _+_, _*_, _≤_}
+use Prim.Native.Nat.{ℕ, _≤_}
 use native.Mathlib.Omega.{arith}
 use lib.Dec.{eqb}
 use lib.IntN.{pos, negsuc}
@@ -14,7 +14,7 @@ use Rattle.lift.specs.Limits.{timeOk}
 use Rattle.lift.specs.Record.{codeAt}
 use Rattle.plate.specs.Plate.{noCounts, countsOf, total}
 use Rattle.plate.proofs.Counts.{length-counts, total-none, counts-total}
-use Rattle.search.specs.Found.{foundRows}
+use Rattle.search.specs.Found.{foundRows, mostFound}
 use Rattle.search.specs.Answers.{TallyAnswer, tallyAnswer, rowCodes}
 use Rattle.search.proofs.Most.{found-most}
 use Rattle.bounds.specs.Grounds.{nandBad, norBad, queryGround}
@@ -72,7 +72,7 @@ module _ (w : World) (slots t1 t2 : ℕ) where
 
   -- the lifts counted, as many as the rows
   counted-most : tallyGround ≡ 0 → (rows : List (List ℕ)) → rowsFound ≡ some rows
-      → total (countsOf (rowCodes rows)) ≤ (slots + 1) * 320
+      → total (countsOf (rowCodes rows)) ≤ mostFound slots
   unfolding searchGround askedGround
   counted-most z rows e =
       let a = asked (w .state) (w .nand) (w .nor) slots t1 t2 (negsuc 49999) (pos 100000) z in
@@ -86,8 +86,8 @@ module _ (w : World) (slots t1 t2 : ℕ) where
 
   -- ---- what is known of every answer
 
-  pub tally-most : total (tallyOutcome w slots t1 t2 .counts) ≤ (slots + 1) * 320
-  tally-most = tally-cases (λ a. total (a .counts) ≤ (slots + 1) * 320) (λ n h. omega (arith, total-none)) counted-most
+  pub tally-most : total (tallyOutcome w slots t1 t2 .counts) ≤ mostFound slots
+  tally-most = tally-cases (λ a. total (a .counts) ≤ mostFound slots) (λ n h. omega (arith, total-none)) counted-most
 
   -- of 4,096 slots and the open segment
   pub tally-fits : total (tallyOutcome w slots t1 t2 .counts) ≤ 1311040
