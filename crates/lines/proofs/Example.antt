@@ -8,7 +8,7 @@ use lib.ListN.{replicate}
 use Rattle.codec.specs.Area.{part, repeated}
 use Rattle.lines.specs.declared.Line.the-variants.{Append, Search}
 use Rattle.lines.specs.Columns.{readOn, readFrom}
-use Rattle.lines.specs.Forms.{appendLine, searchLine, windowLine, hasForm, lineOf}
+use Rattle.lines.specs.Forms.{appendLine, searchLine, hasForm, lineOf}
 use Rattle.lines.specs.Printed.{digits, digitsWithin, justified, headBytes, countBytes, loadBytes, liftBytes}
 use Rattle.lines.specs.Page.{heading, percentage, plateLine, totalLine}
 

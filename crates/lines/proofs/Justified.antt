@@ -8,13 +8,13 @@ use native.Mathlib.Nat.{pow-suc, pow-zero}
 use native.Mathlib.Omega.{arith}
 use borrow.Author.Tests.{lt-ltb, le-ltb, ltb-true, ltb-false, leb-true, leb-false}
 use lib.Dec.{leb, ltb}
-use lib.ListN.{length, drop, length-append, length-drop, length-replicate}
+use lib.ListN.{length, drop, length-append, length-drop}
 use lib.Seq.{drop-append-le, drop-length}
 use Rattle.codec.specs.Area.{repeated}
 use Rattle.codec.proofs.Areas.{length-repeated, repeated-append}
 use Rattle.lines.specs.declared.Pen.{Pen}
 use Rattle.lines.specs.Printed.{digit, digitsWithin, digits, numeral, spaces, justified, columns}
-use Rattle.lines.specs.Pen.{penByte, penNext, columnsOf}
+use Rattle.lines.specs.Pen.{columnsOf}
 
 -- ---- digits
 

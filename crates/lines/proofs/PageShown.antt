@@ -1,6 +1,6 @@
 -- What the service page shows, read from its characters. The idea: a line's fields stand where its columns say, and a number that fits
 -- its columns reads back. Assumes nothing.
-use mathlib.Core.Path.{_≡_, refl, sym, ap, ap₂, _∙_}
+use mathlib.Core.Path.{_≡_, refl, sym, ap, _∙_}
 use mathlib.Core.Bool.{Bool, true, false, cond}
 use mathlib.Core.List.{List, [], _∷_, _++_, map, append-assoc, append-nil}
 use Prim.Native.Nat.{ℕ, zero, suc, _+_, _-_, _*_, _/_, _^_, _≤_, _<_}
@@ -8,19 +8,17 @@ use native.Mathlib.Nat.{div-mul-le-self, lt-div-mul-add, div-lt-iff-lt-mul, add-
 use native.Mathlib.Omega.{arith}
 use borrow.Author.Tests.{eqb-false, ne-eqb, ltb-true, ltb-false}
 use lib.Dec.{eqb, ltb}
-use lib.ListN.{length, getD, take, drop, length-append}
+use lib.ListN.{length, getD, drop, length-append}
 use lib.Seq.{take-at, getD-at}
 use Rattle.codec.specs.Area.{part}
 use Rattle.codec.proofs.Areas.{length-repeated, part-append-left, part-append-right, part-all}
 use Rattle.plate.specs.Plate.{total}
 use Rattle.plate.proofs.Totals.{place-total, total-from, total-past}
-use Rattle.lines.specs.declared.Field.{Field}
-use Rattle.lines.specs.declared.Field.the-variants.{Digits}
 use Rattle.lines.specs.Columns.{fieldIn, valueOf}
 use Rattle.lines.specs.Printed.{digits, spaces, number}
 use Rattle.lines.specs.Page.{heading, percentage, plateLine, plateLines, totalLine, pageLines}
 use Rattle.lines.specs.PageRead.{EachLong, Holds, countIn, between, plateLineOf, Shows}
-use Rattle.lines.proofs.Justified.{digits-few, length-justified}
+use Rattle.lines.proofs.Justified.{digits-few, length-justified, justified-fits}
 use Rattle.lines.proofs.ReadBack.{reads-back}
 use Rattle.lines.proofs.PageWritten.{length-heading, length-plate, length-total}
 
@@ -59,7 +57,11 @@ field-holds a b at w j v e z h k =
     let p : part (a ++ number w v ++ b) at w ≡ number w v =
     part-append-left (a ++ number w v) b at w (simp length-append (omega arith))
     ∙ part-append-right a (number w v) 0 at w (omega arith) (omega arith) ∙ part-all (number w v) w n in
-    record { reads = ap fieldIn p ∙ reads-back w v false (omega arith); fits = omega arith }
+    record {
+      fits = omega arith;
+      justified = p ∙ justified-fits w (digits v) (omega arith);
+      reads = ap fieldIn p ∙ reads-back w v false (omega arith);
+    }
 
 -- ---- the lines
 

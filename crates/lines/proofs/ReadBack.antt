@@ -1,21 +1,21 @@
 -- A printed number reads back wherever it fits its columns: times below 10 ^ 15, loads within their limits. The idea: spaces read as
 -- nothing, and the last digit is read last. Assumes nothing.
-use mathlib.Core.Path.{_≡_, refl, sym, ap, _∙_}
+use mathlib.Core.Path.{_≡_, refl, ap, _∙_}
 use mathlib.Core.Bool.{Bool, true, false, cond, not}
 use mathlib.Core.List.{List, [], _∷_, _++_}
 use Prim.Native.Nat.{ℕ, zero, suc, _+_, _-_, _*_, _/_, _%_, _^_, _≤_, _<_}
 use native.Mathlib.Omega.{arith}
 use borrow.Author.Tests.{leb-true, ltb-true, ltb-false, le-leb, ne-eqb}
 use lib.Dec.{leb, eqb, ltb}
-use lib.IntN.{ℤ, pos, negsuc, subℕ}
+use lib.IntN.{ℤ, pos, negsuc}
 use lib.ListN.{length}
 use Rattle.codec.specs.Area.{repeated}
 use Rattle.lift.specs.Limits.{loadOk}
 use Rattle.lift.proofs.Differences as D
 use Rattle.lines.specs.declared.Field.{Field}
-use Rattle.lines.specs.declared.Field.the-variants.{Spaces, Minus, Digits, Broken}
+use Rattle.lines.specs.declared.Field.the-variants.{Spaces, Minus, Digits}
 use Rattle.lines.specs.Columns.{withDigit, readOn, readFrom, fieldIn, isLoad, loadIn}
-use Rattle.lines.specs.Printed.{digit, digitsWithin, digits, numeral, spaces, justified, columns, loadBytes}
+use Rattle.lines.specs.Printed.{digit, digitsWithin, digits, numeral, spaces, columns, loadBytes}
 use Rattle.lines.proofs.Justified.{justified-fits, numeral-few}
 use Rattle.lines.proofs.Reading.{both}
 

@@ -2,15 +2,14 @@
 -- the tally's and add up to the total". Assumes nothing.
 use mathlib.Core.Path.{_≡_}
 use mathlib.Core.Bool.{false}
-use mathlib.Core.List.{List, [], _∷_, map}
+use mathlib.Core.List.{List, [], _∷_, _++_, map}
 use Prim.Native.Nat.{ℕ, _+_, _-_, _≤_, _<_}
 use lib.ListN.{length, getD, take, drop}
 use Rattle.codec.specs.Area.{part}
 use Rattle.plate.specs.Plate.{total}
-use Rattle.lines.specs.declared.Field.{Field}
 use Rattle.lines.specs.declared.Field.the-variants.{Digits}
 use Rattle.lines.specs.Columns.{fieldIn, valueOf}
-use Rattle.lines.specs.Printed.{digits}
+use Rattle.lines.specs.Printed.{digits, spaces}
 use Rattle.lines.specs.Page.{percentage}
 
 -- every line has n characters
@@ -18,10 +17,11 @@ abbrev pub EachLong : ℕ → List (List ℕ) → Type 0
 EachLong n [] = Unit {0}
 EachLong n (l ∷ ls) = (length l ≡ n) × EachLong n ls
 
--- the n columns of a line from `at` on hold the number v, right-justified with no digit left out
+-- the n columns of a line from `at` on hold the number v: no digit is left out, it is right-justified, and it reads back
 pub record Holds (line : List ℕ) (at n v : ℕ) : Type 0 where
-  pub reads : fieldIn (part line at n) ≡ Digits false v
   pub fits : length (digits v) ≤ n
+  pub justified : part line at n ≡ spaces (n - length (digits v)) ++ digits v
+  pub reads : fieldIn (part line at n) ≡ Digits false v
 
 -- the number in columns 5 to 13 of a line: a count, or the total
 abbrev pub countIn : List ℕ → ℕ

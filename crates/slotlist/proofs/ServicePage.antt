@@ -1,7 +1,7 @@
 -- The service page of an accepted tally (document 02, W-201), for any chips, any state and any S: every line has 40 characters, the
 -- counts printed are the tally's and add up to the total, and no number is too wide for its columns. An accepted tally has 21 counts,
 -- together at most 1,311,040, and times within their limits, so all that the page shows fits. Assumes nothing.
-use mathlib.Core.Path.{_≡_, refl, sym, ap, _∙_}
+use mathlib.Core.Path.{_≡_, sym, ap, _∙_}
 use mathlib.Core.List.{List, [], _∷_, _++_, append-nil}
 use Prim.Native.Nat.{ℕ, _+_, _≤_}
 use native.Mathlib.Omega.{arith}

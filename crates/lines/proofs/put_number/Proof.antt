@@ -1,6 +1,6 @@
 -- `lines::put_number` meets its contract. The invariant: what is left to write, written, gives what the whole gives.
-use mathlib.Core.Path.{_≡_, refl, sym, ap, _∙_}
-use Prim.Native.Nat.{_+_, _-_, _≤_, _<_}
+use mathlib.Core.Path.{_≡_, refl, ap, _∙_}
+use Prim.Native.Nat.{_+_, _-_, _≤_}
 use lib.ListN.{length, length-set}
 use Rattle.codec.specs.Area.{splice}
 use Rattle.lines.specs.Printed.{columns}

@@ -1,7 +1,7 @@
 -- `lines::page::put_plates` meets its contract. The invariant: the lines that are left, written, give what the whole gives.
-use mathlib.Core.Path.{_≡_, refl, sym, ap, _∙_}
-use Prim.Native.Nat.{_+_, _-_, _*_, _≤_, _<_}
-use lib.ListN.{length, getD}
+use mathlib.Core.Path.{_≡_, refl, _∙_}
+use Prim.Native.Nat.{_+_, _-_, _*_, _≤_}
+use lib.ListN.{length}
 use Rattle.codec.specs.Area.{splice}
 use Rattle.plate.proofs.Totals.{place-total}
 use Rattle.lines.specs.Page.{plateLines, textOf}

@@ -1,9 +1,8 @@
 -- `lines::page::total_of` meets its contract. The invariant: what is added up, with the places that are left, is the whole.
-use mathlib.Core.Path.{_≡_, refl, sym, ap, _∙_}
-use Prim.Native.Nat.{ℕ, suc, _+_, _-_, _≤_, _<_}
+use mathlib.Core.Path.{_≡_}
+use Prim.Native.Nat.{_+_, _-_, _≤_}
 use native.Mathlib.Numerals.{add-one}
-use lib.ListN.{length, getD, drop}
-use lib.Seq.{drop-length}
+use lib.ListN.{length, drop}
 use Rattle.plate.specs.Plate.{total}
 use Rattle.plate.proofs.Totals.{total-from, total-past}
 use native.Mathlib.Omega.{arith}
