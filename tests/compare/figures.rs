@@ -4,6 +4,44 @@ use script::calls::Call;
 
 const NUMBERS: usize = 13;
 
+/// How often each number was given.
+pub type Numbers = [u64; NUMBERS];
+
+/// Prints a row for each name.
+pub fn print_numbers(names: &[&str], rows: &[Numbers]) {
+    print!("{:8}", "number");
+    (0..NUMBERS).for_each(|number| print!("{number:9}"));
+    println!();
+    for (name, counts) in names.iter().zip(rows) {
+        print!("{name:8}");
+        counts.iter().for_each(|count| print!("{count:9}"));
+        println!();
+    }
+}
+
+/// Closes and drops that appends brought about in the paper log.
+#[derive(Default)]
+pub struct Turns {
+    closes_at_320_lifts: u64,
+    closes_for_bucket_36: u64,
+    forced_drops: u64,
+}
+
+impl Turns {
+    pub fn count(&mut self, call: &Call, said: &Said) {
+        self.closes_at_320_lifts += u64::from(said.closed == Some(Closed::At320Lifts));
+        self.closes_for_bucket_36 += u64::from(said.closed == Some(Closed::ForBucket36));
+        self.forced_drops += u64::from(matches!(call, Call::Append { .. }) && said.gone.is_some());
+    }
+
+    pub fn print(&self) {
+        println!(
+            "closes at 320 lifts {}, closes for bucket 36 {}, forced drops {}",
+            self.closes_at_320_lifts, self.closes_for_bucket_36, self.forced_drops
+        );
+    }
+}
+
 /// The numbers of each call, in the order of `Call::NAMES`.
 const NUMBERS_OF_CALLS: [&[usize]; 7] = [
     &[0, 1, 2],
@@ -17,12 +55,10 @@ const NUMBERS_OF_CALLS: [&[usize]; 7] = [
 
 #[derive(Default)]
 pub struct Figures {
-    calls: [[u64; NUMBERS]; 7],
+    calls: [Numbers; 7],
     by_paper_log: u64,
     pub rows: u64,
-    closes_at_320_lifts: u64,
-    closes_for_bucket_36: u64,
-    forced_drops: u64,
+    turns: Turns,
     pub wrong_lengths: u64,
 }
 
@@ -36,9 +72,7 @@ impl Figures {
     /// Counts what an accepted call does in the paper log.
     pub fn count_said(&mut self, call: &Call, said: &Said) {
         self.by_paper_log += 1;
-        self.closes_at_320_lifts += u64::from(said.closed == Some(Closed::At320Lifts));
-        self.closes_for_bucket_36 += u64::from(said.closed == Some(Closed::ForBucket36));
-        self.forced_drops += u64::from(matches!(call, Call::Append { .. }) && said.gone.is_some());
+        self.turns.count(call, said);
     }
 
     pub fn total_calls(&self) -> u64 {
@@ -56,14 +90,7 @@ impl Figures {
     }
 
     pub fn print(&self) {
-        print!("{:8}", "number");
-        (0..NUMBERS).for_each(|number| print!("{number:9}"));
-        println!();
-        for (name, counts) in Call::NAMES.iter().zip(&self.calls) {
-            print!("{name:8}");
-            counts.iter().for_each(|count| print!("{count:9}"));
-            println!();
-        }
+        print_numbers(&Call::NAMES, &self.calls);
         println!(
             "calls {}, also held to the paper log {}, rows compared {}, calls with a wrong length {}",
             self.total_calls(),
@@ -71,9 +98,6 @@ impl Figures {
             self.rows,
             self.wrong_lengths
         );
-        println!(
-            "closes at 320 lifts {}, closes for bucket 36 {}, forced drops {}",
-            self.closes_at_320_lifts, self.closes_for_bucket_36, self.forced_drops
-        );
+        self.turns.print();
     }
 }

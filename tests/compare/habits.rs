@@ -1,6 +1,6 @@
 //! Chooses the calls of a list: what a console would ask, and what it should not.
 use crate::judge::Step;
-use crate::patterns::{Loads, Times};
+use crate::patterns::{near_plate_end, Loads, Times};
 use crate::random::Random;
 use crate::trial::Trial;
 use model::limits::{GREATEST_LOAD, LAST_TIME, LEAST_LOAD};
@@ -193,5 +193,5 @@ fn plate_load(random: &mut Random) -> i32 {
     if random.once_in(10) {
         return odd_load(random);
     }
-    500 * random.load(-2, 22) + 250 + random.load(-1, 1)
+    near_plate_end(random)
 }

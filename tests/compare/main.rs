@@ -1,4 +1,4 @@
-//! Holds the built library to the model: random lists and damaged stores, or one script.
+//! Holds the built library and the program to the model: random lists and damaged stores, one script, random inputs.
 mod bases;
 mod damage;
 mod edges;
@@ -6,6 +6,7 @@ mod figures;
 mod habits;
 mod judge;
 mod lengths;
+mod lines;
 mod lists;
 mod mids;
 mod page_rules;
@@ -22,7 +23,8 @@ use std::process::ExitCode;
 use std::time::{Duration, Instant};
 use trial::Trial;
 
-const USAGE: &str = "compare random SECONDS SEED FOLDER | compare fixed SCRIPT.. | compare write SEED KIND";
+const USAGE: &str = "compare random SECONDS SEED FOLDER | compare fixed SCRIPT.. | compare write SEED KIND | \
+                     compare lines SECONDS SEED FOLDER | compare input SEED";
 
 type Kind = (&'static str, fn(&mut Trial) -> Step);
 const LARGE: Kind = ("large", lists::on_largest_chip);
@@ -45,24 +47,28 @@ fn kind_at(place: u64) -> Kind {
 fn main() -> ExitCode {
     let words: Vec<String> = std::env::args().skip(1).collect();
     let words: Vec<&str> = words.iter().map(String::as_str).collect();
-    let done = match words[..] {
-        ["random", seconds, seed, folder] => match (seconds.parse(), seed.parse()) {
-            (Ok(seconds), Ok(seed)) => random_run(seconds, seed, folder),
-            _ => Err(USAGE.to_string()),
-        },
-        ["fixed", ref scripts @ ..] => fixed_run(scripts),
-        ["write", seed, kind] => match (seed.parse(), KINDS.iter().find(|(name, _)| *name == kind)) {
-            (Ok(seed), Some(kind)) => write_script(seed, kind),
-            _ => Err(USAGE.to_string()),
-        },
-        _ => Err(USAGE.to_string()),
-    };
-    match done {
+    match run(&words) {
         Ok(()) => ExitCode::SUCCESS,
         Err(problem) => {
             println!("{problem}");
             ExitCode::FAILURE
         }
+    }
+}
+
+fn run(words: &[&str]) -> Result<(), String> {
+    let usage = || USAGE.to_string();
+    let number = |word: &str| word.parse().map_err(|_| usage());
+    match *words {
+        ["random", seconds, seed, folder] => random_run(number(seconds)?, number(seed)?, folder),
+        ["fixed", ref scripts @ ..] => fixed_run(scripts),
+        ["write", seed, kind] => {
+            let kind = KINDS.iter().find(|(name, _)| *name == kind);
+            write_script(number(seed)?, kind.ok_or_else(usage)?)
+        }
+        ["lines", seconds, seed, folder] => lines::random_run(number(seconds)?, number(seed)?, folder),
+        ["input", seed] => lines::write_input(number(seed)?),
+        _ => Err(usage()),
     }
 }
 
@@ -114,10 +120,14 @@ fn random_run(seconds: u64, first_seed: u64, folder: &str) -> Result<(), String>
         lists += 1;
     }
     judge.figures.print();
-    let last_seed = first_seed.wrapping_add(lists).wrapping_sub(1);
-    println!("seeds {first_seed} to {last_seed}, {:.1} seconds", begun.elapsed().as_secs_f64());
+    print_seeds(first_seed, lists, begun);
     println!("{} calls in {lists} scripts, no difference", judge.figures.total_calls());
     Ok(())
+}
+
+fn print_seeds(first_seed: u64, seeds: u64, begun: Instant) {
+    let last_seed = first_seed.wrapping_add(seeds).wrapping_sub(1);
+    println!("seeds {first_seed} to {last_seed}, {:.1} seconds", begun.elapsed().as_secs_f64());
 }
 
 /// If the library stops the whole program, the file tells which list it was.
@@ -128,7 +138,8 @@ fn note_list_under_way(folder: &str, seed: u64, kind: &str) -> Result<(), String
 /// Writes the script that shows a difference, shortened, and tells its name.
 fn report(seed: u64, kind: &str, what: &str, commands: Vec<Command>, folder: &str) -> String {
     let mut told = format!("DIFFERENCE in {kind}, seed {seed}: {what}\n");
-    let commands = shorten::shortened(commands);
+    let taken = |commands: &[Command]| shorten::first_difference(commands).map(|(taken, _)| taken);
+    let commands = shorten::shortened(commands, taken);
     told += &match shorten::first_difference(&commands) {
         Some((_, Difference(what))) => format!("shown by the script: {what}\n"),
         None => "no line of the script shows it: it leads up to the call with wrong lengths\n".to_string(),

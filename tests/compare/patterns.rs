@@ -30,6 +30,7 @@ pub enum Loads {
     Even {
         load: i32,
     },
+    AtPlateEnds,
 }
 
 impl Loads {
@@ -99,8 +100,14 @@ impl Loads {
                 *load = LEAST_LOAD + (*load - LEAST_LOAD + 92_706) % range;
                 *load
             }
+            Loads::AtPlateEnds => near_plate_end(random),
         }
     }
+}
+
+/// At the end of a plate's band, or one beside it.
+pub fn near_plate_end(random: &mut Random) -> i32 {
+    500 * random.load(-2, 22) + 250 + random.load(-1, 1)
 }
 
 /// Steps from one time to the next.

@@ -40,6 +40,19 @@ impl Random {
         choices[self.index(choices.len())]
     }
 
+    /// A place in a list of weights, each as often as its weight says.
+    pub fn by_weight(&mut self, weights: &[u64]) -> usize {
+        let mut left = self.below(weights.iter().sum());
+        let reaches = |weight: &u64| match left.checked_sub(*weight) {
+            Some(rest) => {
+                left = rest;
+                false
+            }
+            None => true,
+        };
+        weights.iter().position(reaches).unwrap()
+    }
+
     pub fn note(&mut self) -> [u8; 20] {
         if self.once_in(4) {
             return [0; 20];

@@ -1,4 +1,4 @@
-//! Makes a script that shows a difference shorter, as far as a few seconds go.
+//! Makes a list that shows a difference shorter, as far as a few seconds go: a script, or the lines of an input.
 use crate::judge::{Difference, Judge};
 use script::command::Command;
 use std::time::{Duration, Instant};
@@ -14,25 +14,25 @@ pub fn first_difference(commands: &[Command]) -> Option<(usize, Difference)> {
         .find_map(|(taken, step)| Some((taken, step.err()?)))
 }
 
-/// Leaves out runs of commands, shorter and shorter ones, as long as some difference is left.
-/// Commands that show none stay as they are.
-pub fn shortened(mut commands: Vec<Command>) -> Vec<Command> {
+/// Leaves out runs of the list, shorter and shorter ones, as long as some difference is left; `taken` tells how much
+/// of a list it takes to show one. A list that shows none stays as it is.
+pub fn shortened<T: Clone>(mut list: Vec<T>, taken: impl Fn(&[T]) -> Option<usize>) -> Vec<T> {
     let begun = Instant::now();
-    let mut run = commands.len() / 2;
+    let mut run = list.len() / 2;
     while run > 0 {
         let mut from = 0;
-        while from < commands.len() && begun.elapsed() < PATIENCE {
-            let mut fewer = commands.clone();
-            fewer.drain(from..(from + run).min(commands.len()));
-            match first_difference(&fewer) {
-                Some((taken, _)) => {
+        while from < list.len() && begun.elapsed() < PATIENCE {
+            let mut fewer = list.clone();
+            fewer.drain(from..(from + run).min(list.len()));
+            match taken(&fewer) {
+                Some(taken) => {
                     fewer.truncate(taken);
-                    commands = fewer;
+                    list = fewer;
                 }
                 None => from += run,
             }
         }
         run /= 2;
     }
-    commands
+    list
 }

@@ -1,7 +1,10 @@
-//! Document 01 read a second time: the paper log, and an expectation of every byte.
+//! Document 01 read a second time: the paper log, the program's lines, and an expectation of every byte.
+pub mod answers;
 pub mod bytes;
 pub mod limits;
+pub mod lines;
 pub mod load_tree;
 pub mod paper;
 pub mod plate;
+pub mod service_page;
 pub mod split;

@@ -1,14 +1,14 @@
 -- A line by its form: what each `return` of the parser hands back is what the form's definition says. Assumes nothing.
-use mathlib.Core.Path.{_≡_, refl, sym, _∙_}
-use mathlib.Core.Bool.{Bool, true, false, cond, _&&_}
+use mathlib.Core.Path.{_≡_, sym, _∙_}
+use mathlib.Core.Bool.{Bool, true, false, _&&_}
 use mathlib.Core.List.{List}
 use Prim.Native.Nat.{ℕ}
 use lib.IntN.{ℤ}
 use Rattle.lines.specs.declared.Field.{Field}
 use Rattle.lines.specs.declared.Line.{Line}
-use Rattle.lines.specs.declared.Line.the-variants.{Append, Close, Drop, Search, Tally, Other}
+use Rattle.lines.specs.declared.Line.the-variants.{Append, Close, Drop, Search, Tally, Page, Other}
 use Rattle.lines.specs.Columns.{valueOf, isTime, isLoad, loadIn}
-use Rattle.lines.specs.Forms.{timeField, loadField, appendLine, searchLine, tallyLine, hasForm, lineOf}
+use Rattle.lines.specs.Forms.{timeField, loadField, appendLine, searchLine, windowLine, hasForm, lineOf}
 
 -- ---- A: a time and a load
 
@@ -22,17 +22,22 @@ module _ (s : List ℕ) {t k : Field} {a b : Bool} (et : t ≡ timeField s 1) (e
   unfolding appendLine
   append-other h = rw (← et, ← ek, ← ea, ← eb, h)
 
--- ---- T: two times
+-- ---- T and P: two times
 
-module _ (s : List ℕ) {t1 t2 : Field} {a b : Bool} (e1 : t1 ≡ timeField s 1) (e2 : t2 ≡ timeField s 16) (ea : a ≡ isTime t1)
-    (eb : b ≡ isTime t2) where
-  pub tally-read : {u v : ℕ} → (a && b) ≡ true → u ≡ valueOf t1 → v ≡ valueOf t2 → Tally u v ≡ tallyLine s
-  unfolding tallyLine
-  tally-read h u v = rw (u, v, ← e1, ← e2, ← ea, ← eb, h)
+module _ (s : List ℕ) (page : Bool) {t1 t2 : Field} {a b : Bool} (e1 : t1 ≡ timeField s 1) (e2 : t2 ≡ timeField s 16)
+    (ea : a ≡ isTime t1) (eb : b ≡ isTime t2) where
+  module _ {u v : ℕ} (h : (a && b) ≡ true) (eu : u ≡ valueOf t1) (ev : v ≡ valueOf t2) where
+    pub as-page : page ≡ true → Page u v ≡ windowLine page s
+    unfolding windowLine
+    as-page p = rw (p, eu, ev, ← e1, ← e2, ← ea, ← eb, h)
 
-  pub tally-other : (a && b) ≡ false → Other ≡ tallyLine s
-  unfolding tallyLine
-  tally-other h = rw (← e1, ← e2, ← ea, ← eb, h)
+    pub as-tally : page ≡ false → Tally u v ≡ windowLine page s
+    unfolding windowLine
+    as-tally p = rw (p, eu, ev, ← e1, ← e2, ← ea, ← eb, h)
+
+  pub window-other : (a && b) ≡ false → Other ≡ windowLine page s
+  unfolding windowLine
+  window-other h = rw (← e1, ← e2, ← ea, ← eb, h)
 
 -- ---- Q: two times and two loads
 
@@ -76,10 +81,15 @@ module _ (s : List ℕ) where
         is-search h e = rw (a, b, c, h) e
 
         module _ (d : hasForm s 81 47 ≡ false) where
-          pub is-tally : {r : Line} → hasForm s 84 31 ≡ true → r ≡ tallyLine s → r ≡ lineOf s
+          pub is-tally : {r : Line} → hasForm s 84 31 ≡ true → r ≡ windowLine false s → r ≡ lineOf s
           unfolding lineOf
           is-tally h e = rw (a, b, c, d, h) e
 
-          pub is-other : hasForm s 84 31 ≡ false → Other ≡ lineOf s
-          unfolding lineOf
-          is-other h = rw (a, b, c, d, h)
+          module _ (t : hasForm s 84 31 ≡ false) where
+            pub is-page : {r : Line} → hasForm s 80 31 ≡ true → r ≡ windowLine true s → r ≡ lineOf s
+            unfolding lineOf
+            is-page h e = rw (a, b, c, d, t, h) e
+
+            pub is-other : hasForm s 80 31 ≡ false → Other ≡ lineOf s
+            unfolding lineOf
+            is-other h = rw (a, b, c, d, t, h)

@@ -1,13 +1,12 @@
 -- The turns of the loops that print. The idea: what is left to write, written, gives what the whole gives. Assumes nothing.
 use mathlib.Core.Path.{_≡_, refl, sym, ap, ap₂, _∙_}
-use mathlib.Core.Bool.{Bool, true, false, cond}
+use mathlib.Core.Bool.{true, false, cond}
 use mathlib.Core.List.{List, [], _∷_, _++_, append-assoc, append-nil}
 use Prim.Native.Nat.{ℕ, zero, suc, _+_, _-_, _*_, _≤_, _<_}
 use native.Mathlib.Numerals.{add-one}
 use native.Mathlib.Omega.{arith}
 use borrow.Author.Tests.{lt-ltb, le-ltb}
 use lib.Dec.{ltb}
-use lib.IntN.{ℤ, pos, negsuc}
 use lib.ListN.{length, take, drop, getD, set, length-append, length-set, take-append-drop}
 use lib.Seq.{append-snoc, take-set-le, drop-set-lt, drop-cons, getD-set-same, drop-length}
 use Rattle.codec.specs.Area.{splice}
@@ -15,7 +14,9 @@ use Rattle.codec.proofs.Areas.{splice-next}
 use Rattle.lift.specs.Limits.{loadOf}
 use Rattle.lift.proofs.Differences as D
 use Rattle.lines.specs.declared.Pen.{Pen}
-use Rattle.lines.specs.Printed.{penByte, penNext, columnsOf, columns, countBytes, countsBytes, loadBytes}
+use Rattle.lines.specs.Printed.{columns, number, countBytes, countsBytes, loadBytes}
+use Rattle.lines.specs.Pen.{penByte, penNext, columnsOf}
+use Rattle.lines.proofs.Justified.{length-justified}
 
 pub length-columns : (w : ℕ) (p : Pen) → length (columnsOf w p) ≡ w
 unfolding columnsOf
@@ -64,7 +65,7 @@ pub count-step : (s ns : List ℕ) (i : ℕ) → i < length ns → 4 + 7 * (i + 
     ≡ splice s (4 + 7 * i) (countsBytes (drop i ns))
 unfolding countsBytes
 count-step s ns i h k =
-    let l : length (countBytes (getD ns i 0)) ≡ 7 = length-columns 7 _ in
+    let l : length (countBytes (getD ns i 0)) ≡ 7 = length-justified 7 _ in
     rw (add-one i, drop-cons ns i 0)
     (splice-next s (4 + 7 * i) (countBytes (getD ns i 0)) (4 + 7 * suc i) (countsBytes (drop (suc i) ns)) (omega arith)
     (omega arith))
@@ -86,21 +87,20 @@ load-printed code = D.by-sign code 50001 (λ z. columns 8 (ltb code 50001) (cond
     (λ n e. let t : ltb code 50001 ≡ true = lt-ltb code 50001 (omega arith) in
     let v : 50001 - code ≡ suc n = omega arith in rw (t, v))
 
-set-first : (s : List ℕ) (b : ℕ) → 0 < length s → set s 0 b ≡ splice s 0 (b ∷ [])
-unfolding splice
-set-first [] b h = absurd (omega arith)
-set-first (x ∷ s) b h = refl
+-- a byte stored is a splice
+pub byte-stored : (s : List ℕ) (k b : ℕ) → k < length s → set s k b ≡ splice s k (b ∷ [])
+byte-stored s k b h = sym (splice-none (set s k b) k [] refl) ∙ splice-last s k [] b k (omega arith) h
 
 -- a first byte, and what is put after it, are one splice
 pub head-printed : (s : List ℕ) (b : ℕ) (p : List ℕ) → 1 + length p ≤ length s → splice (set s 0 b) 1 p ≡ splice s 0 (b ∷ p)
 head-printed s b p h =
-    ap (λ (t : List ℕ). splice t 1 p) (set-first s b (omega arith)) ∙ splice-next s 0 (b ∷ []) 1 p refl (omega arith)
+    ap (λ (t : List ℕ). splice t 1 p) (byte-stored s 0 b (omega arith)) ∙ splice-next s 0 (b ∷ []) 1 p refl (omega arith)
 
 -- a time, and a load after it
 pub lift-printed : (s : List ℕ) (time code : ℕ) → 23 ≤ length s
-    → splice (splice s 0 (columns 15 false time)) 15
+    → splice (splice s 0 (number 15 time)) 15
     (columns 8 (ltb code 50001) (cond (ltb code 50001) (50001 - code) (code - 50001)))
-    ≡ splice s 0 (columns 15 false time ++ loadBytes (loadOf code))
+    ≡ splice s 0 (number 15 time ++ loadBytes (loadOf code))
 lift-printed s time code h =
-    let l : length (columns 15 false time) ≡ 15 = length-columns 15 _ in
-    rw (load-printed code) (splice-next s 0 (columns 15 false time) 15 (loadBytes (loadOf code)) (omega arith) (omega arith))
+    let l : length (number 15 time) ≡ 15 = length-justified 15 _ in
+    rw (load-printed code) (splice-next s 0 (number 15 time) 15 (loadBytes (loadOf code)) (omega arith) (omega arith))

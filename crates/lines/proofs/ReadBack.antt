@@ -1,29 +1,30 @@
--- A printed number reads back: times below 10 ^ 15 and loads within their limits. The idea: the last column is read last, and the
--- columns before it hold the number without its last digit. Assumes nothing.
-use mathlib.Core.Path.{_≡_, refl, sym, ap, _∙_}
+-- A printed number reads back wherever it fits its columns: times below 10 ^ 15, loads within their limits. The idea: spaces read as
+-- nothing, and the last digit is read last. Assumes nothing.
+use mathlib.Core.Path.{_≡_, refl, ap, _∙_}
 use mathlib.Core.Bool.{Bool, true, false, cond, not}
 use mathlib.Core.List.{List, [], _∷_, _++_}
 use Prim.Native.Nat.{ℕ, zero, suc, _+_, _-_, _*_, _/_, _%_, _^_, _≤_, _<_}
-use native.Mathlib.Nat.{pow-suc, pow-zero}
 use native.Mathlib.Omega.{arith}
-use borrow.Author.Tests.{leb-true, leb-false, le-leb, ne-eqb}
-use lib.Dec.{leb, eqb}
-use lib.IntN.{ℤ, pos, negsuc, subℕ}
+use borrow.Author.Tests.{leb-true, ltb-true, ltb-false, le-leb, ne-eqb}
+use lib.Dec.{leb, eqb, ltb}
+use lib.IntN.{ℤ, pos, negsuc}
+use lib.ListN.{length}
+use Rattle.codec.specs.Area.{repeated}
 use Rattle.lift.specs.Limits.{loadOk}
 use Rattle.lift.proofs.Differences as D
 use Rattle.lines.specs.declared.Field.{Field}
-use Rattle.lines.specs.declared.Field.the-variants.{Spaces, Minus, Digits, Broken}
-use Rattle.lines.specs.declared.Pen.{Pen}
+use Rattle.lines.specs.declared.Field.the-variants.{Spaces, Minus, Digits}
 use Rattle.lines.specs.Columns.{withDigit, readOn, readFrom, fieldIn, isLoad, loadIn}
-use Rattle.lines.specs.Printed.{penByte, penNext, columnsOf, columns, loadBytes}
+use Rattle.lines.specs.Printed.{digit, digitsWithin, digits, numeral, spaces, columns, loadBytes}
+use Rattle.lines.proofs.Justified.{justified-fits, numeral-few}
 use Rattle.lines.proofs.Reading.{both}
 
-read-last : (f : Field) (l : List ℕ) (b : ℕ) → readFrom f (l ++ (b ∷ [])) ≡ readOn (readFrom f l) b
+read-append : (f : Field) (a b : List ℕ) → readFrom f (a ++ b) ≡ readFrom (readFrom f a) b
 unfolding readFrom
-read-last f [] b = refl
-read-last f (x ∷ l) b = read-last (readOn f x) l b
+read-append f [] b = refl
+read-append f (x ∷ a) b = read-append (readOn f x) a b
 
-digit-read : (f : Field) (d : ℕ) → d < 10 → readOn f (48 + d) ≡ withDigit f d
+digit-read : (f : Field) (d : ℕ) → d < 10 → readOn f (digit d) ≡ withDigit f d
 unfolding readOn
 digit-read f d h =
     let a : leb 48 (48 + d) ≡ true = le-leb 48 (48 + d) (omega arith) in
@@ -31,62 +32,58 @@ digit-read f d h =
     let v : 48 + d - 48 ≡ d = omega arith in
     rw (a, b, v)
 
--- spaces alone
-blank : (w n : ℕ) → fieldIn (columnsOf w (record { rest = n; digit = false; minus = false })) ≡ Spaces
-unfolding columnsOf readFrom readOn
-blank zero n = refl
-blank (suc w) n = read-last Spaces (columnsOf w (record { rest = n; digit = false; minus = false })) 32
-    ∙ ap (λ f. readOn f 32) (blank w n)
+blank : (n : ℕ) → readFrom Spaces (spaces n) ≡ Spaces
+unfolding repeated readFrom readOn
+blank zero = refl
+blank (suc n) = blank n
 
 -- what stands before the digits
 abbrev lead : Bool → Field
 lead true = Minus
 lead false = Spaces
 
-before : (minus : Bool) (w n : ℕ) → cond minus 1 0 ≤ w → fieldIn (columnsOf w (record { rest = n; digit = false; minus = minus }))
-    ≡ lead minus
-unfolding columnsOf readFrom readOn
-before false w n h = blank w n
-before true zero n h = absurd (omega arith)
-before true (suc w) n h =
-    read-last Spaces (columnsOf w (record { rest = n; digit = false; minus = false })) 45 ∙ ap (λ f. readOn f 45) (blank w n)
-
 lead-digit : (minus : Bool) (d : ℕ) → withDigit (lead minus) d ≡ Digits minus d
 lead-digit true d = refl
 lead-digit false d = refl
 
-some : (j n : ℕ) → 0 < n → n < 10 ^ j → 0 < j
-some zero n h k = omega (arith, rw pow-zero at k)
-some (suc j) n h k = omega arith
-
--- j digits and the sign have room in w columns
-pub reads-back : (w j n : ℕ) (minus : Bool) → 0 < j → n < 10 ^ j → j + cond minus 1 0 ≤ w → fieldIn (columns w minus n)
-    ≡ Digits minus n
-unfolding columnsOf
-reads-back zero j n minus z h k = absurd (omega arith)
-reads-back (suc w) zero n minus z h k = absurd (omega arith)
-reads-back (suc w) (suc j) n minus z h k =
-    read-last Spaces (columnsOf w (record { rest = n / 10; digit = leb 10 n; minus = minus })) (48 + n % 10)
-    ∙ digit-read _ (n % 10) (omega arith)
-    ∙ go (leb 10 n) refl (reads-back w j (n / 10) minus)
+digits-read : (n v : ℕ) (minus : Bool) → v < n → readFrom (lead minus) (digitsWithin n v) ≡ Digits minus v
+unfolding digitsWithin readFrom
+digits-read zero v minus h = absurd (omega arith)
+digits-read (suc n) v minus h = go (ltb v 10) refl (digits-read n (v / 10) minus)
   where
-    go : (t : Bool) → leb 10 n ≡ t
-        → (0 < j → n / 10 < 10 ^ j → j + cond minus 1 0 ≤ w → fieldIn (columns w minus (n / 10)) ≡ Digits minus (n / 10))
-        → withDigit (fieldIn (columnsOf w (record { rest = n / 10; digit = t; minus = minus }))) (n % 10) ≡ Digits minus n
-    go true e ih =
-        let l = leb-true 10 n e in
-        let p : n < 10 ^ j * 10 = rw pow-suc at h in
-        let q : n / 10 < 10 ^ j = omega arith in
-        let v : n / 10 * 10 + n % 10 ≡ n = omega arith in
-        rw (ih (some j (n / 10) (omega arith) q) q (omega arith), v)
+    go : (t : Bool) → ltb v 10 ≡ t → (v / 10 < n → readFrom (lead minus) (digitsWithin n (v / 10)) ≡ Digits minus (v / 10))
+        → readFrom (lead minus) (cond t (digit v ∷ []) (digitsWithin n (v / 10) ++ (digit (v % 10) ∷ []))) ≡ Digits minus v
+    go true e ih = digit-read (lead minus) v (ltb-true v 10 e) ∙ lead-digit minus v
     go false e ih =
-        let l = leb-false 10 n e in
-        let v : n % 10 ≡ n = omega arith in
-        ap (λ f. withDigit f (n % 10)) (before minus w (n / 10) (omega arith)) ∙ lead-digit minus (n % 10) ∙ ap (Digits minus) v
+        let l = ltb-false v 10 e in
+        let d : v / 10 * 10 + v % 10 ≡ v = omega arith in
+        read-append (lead minus) (digitsWithin n (v / 10)) (digit (v % 10) ∷ [])
+        ∙ ap (λ (f : Field). readOn f (digit (v % 10))) (ih (omega arith))
+        ∙ digit-read (Digits minus (v / 10)) (v % 10) (omega arith)
+        ∙ ap (Digits minus) d
+
+numeral-read : (v : ℕ) (minus : Bool) → readFrom Spaces (numeral minus v) ≡ Digits minus v
+unfolding digits readFrom readOn
+numeral-read v true = digits-read (suc v) v true (omega arith)
+numeral-read v false = digits-read (suc v) v false (omega arith)
+
+-- a number that fits its columns
+pub reads-back : (w v : ℕ) (minus : Bool) → length (numeral minus v) ≤ w → fieldIn (columns w minus v) ≡ Digits minus v
+reads-back w v minus h =
+    rw (
+      justified-fits w (numeral minus v) h,
+      read-append Spaces (spaces (w - length (numeral minus v))) (numeral minus v),
+      blank (w - length (numeral minus v)),
+    )
+    (numeral-read v minus)
+
+-- one of at most j digits, with room for its sign
+digits-back : (w j v : ℕ) (minus : Bool) → 0 < j → v < 10 ^ j → j + cond minus 1 0 ≤ w → fieldIn (columns w minus v) ≡ Digits minus v
+digits-back w j v minus z h k = let n = numeral-few j v minus z h in reads-back w v minus (omega arith)
 
 -- a time
 pub time-reads-back : (n : ℕ) → n < 10 ^ 15 → fieldIn (columns 15 false n) ≡ Digits false n
-time-reads-back n h = reads-back 15 15 n false (omega arith) h (omega arith)
+time-reads-back n h = digits-back 15 15 n false (omega arith) h (omega arith)
 
 not-zero : (n : ℕ) → not (eqb (suc n) 0) ≡ true
 not-zero n = rw (ne-eqb (suc n) 0 (λ e. omega arith))
@@ -96,7 +93,7 @@ pub load-reads-back : (z : ℤ) → loadOk z ≡ true → (isLoad (fieldIn (load
 unfolding loadBytes
 load-reads-back (pos n) h =
     let l = leb-true n 100000 h in
-    rw (reads-back 8 8 n false (omega arith) (omega arith) (omega arith)) (refl, D.is-pos n 0 n (omega arith))
+    rw (digits-back 8 8 n false (omega arith) (omega arith) (omega arith)) (refl, D.is-pos n 0 n (omega arith))
 load-reads-back (negsuc n) h =
     let l = leb-true n 49999 (both _ true h .0) in
-    rw (reads-back 8 7 (suc n) true (omega arith) (omega arith) (omega arith)) (not-zero n, D.is-neg 0 (suc n) n (omega arith))
+    rw (digits-back 8 7 (suc n) true (omega arith) (omega arith) (omega arith)) (not-zero n, D.is-neg 0 (suc n) n (omega arith))

@@ -1,5 +1,6 @@
--- The forms of a line (document 01, "Program"): "letter, then times in 15 columns and loads in 8". Assumes nothing.
-use mathlib.Core.Bool.{Bool, cond, _&&_}
+-- The forms of a line (document 01, "Program"; P: document 02, W-201): "letter, then times in 15 columns and loads in 8".
+-- Assumes nothing.
+use mathlib.Core.Bool.{Bool, true, false, cond, _&&_}
 use mathlib.Core.List.{List}
 use Prim.Native.Nat.{ℕ}
 use lib.Dec.{eqb}
@@ -7,7 +8,7 @@ use lib.ListN.{length, getD}
 use Rattle.codec.specs.Area.{part}
 use Rattle.lines.specs.declared.Field.{Field}
 use Rattle.lines.specs.declared.Line.{Line}
-use Rattle.lines.specs.declared.Line.the-variants.{Append, Close, Drop, Search, Tally, Other}
+use Rattle.lines.specs.declared.Line.the-variants.{Append, Close, Drop, Search, Tally, Page, Other}
 use Rattle.lines.specs.Columns.{fieldIn, valueOf, isTime, isLoad, loadIn}
 
 -- the field of a time and that of a load, from a column on
@@ -32,23 +33,25 @@ searchOf t1 t2 k1 k2 =
 unfoldable pub searchLine : List ℕ → Line
 searchLine s = searchOf (timeField s 1) (timeField s 16) (loadField s 31) (loadField s 39)
 
--- "T tallies (t1 t2)"
-abbrev pub tallyOf : Field → Field → Line
-tallyOf t1 t2 = cond (isTime t1 && isTime t2) (Tally (valueOf t1) (valueOf t2)) Other
+-- "T tallies (t1 t2)"; P prints the page of that tally (document 02, W-201)
+abbrev pub windowOf : Bool → Field → Field → Line
+windowOf page t1 t2 =
+    cond (isTime t1 && isTime t2) (cond page (Page (valueOf t1) (valueOf t2)) (Tally (valueOf t1) (valueOf t2))) Other
 
-unfoldable pub tallyLine : List ℕ → Line
-tallyLine s = tallyOf (timeField s 1) (timeField s 16)
+unfoldable pub windowLine : Bool → List ℕ → Line
+windowLine page s = windowOf page (timeField s 1) (timeField s 16)
 
 -- a line of this length that starts with this letter
 unfoldable pub hasForm : List ℕ → ℕ → ℕ → Bool
 hasForm s letter n = eqb (length s) n && eqb (getD s 0 0) letter
 
--- a line without its line feed; 65, 67, 71, 81 and 84 are the letters A, C, G, Q and T
+-- a line without its line feed; 65, 67, 71, 80, 81 and 84 are the letters A, C, G, P, Q and T
 unfoldable pub lineOf : List ℕ → Line
 lineOf s =
     cond (hasForm s 65 24) (appendLine s)
     (cond (hasForm s 67 1) Close
     (cond (hasForm s 71 1) Drop
     (cond (hasForm s 81 47) (searchLine s)
-    (cond (hasForm s 84 31) (tallyLine s)
-    Other))))
+    (cond (hasForm s 84 31) (windowLine false s)
+    (cond (hasForm s 80 31) (windowLine true s)
+    Other)))))

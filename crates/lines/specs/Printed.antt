@@ -2,37 +2,53 @@
 use mathlib.Core.Bool.{Bool, true, false, cond}
 use mathlib.Core.List.{List, [], _∷_, _++_}
 use Prim.Native.Nat.{ℕ, zero, suc, _+_, _/_, _%_}
-use lib.Dec.{leb}
+use lib.Dec.{ltb}
 use lib.IntN.{ℤ, pos, negsuc}
-use Rattle.lines.specs.declared.Pen.{Pen}
+use lib.ListN.{length, drop}
+use Rattle.codec.specs.Area.{repeated}
 
--- the last column of what is left to write: a digit, the minus, or a space
-abbrev pub penByte : Pen → ℕ
-penByte p = cond (p .digit) (48 + p .rest % 10) (cond (p .minus) 45 32)
+-- ---- a number right-justified
 
--- what is left before that column
-abbrev pub penNext : Pen → Pen
-penNext p =
-    cond (p .digit)
-    (record { rest = p .rest / 10; digit = leb 10 (p .rest); minus = p .minus })
-    (record { rest = p .rest; digit = false; minus = false })
+-- the character of a digit: 48 for 0
+abbrev pub digit : ℕ → ℕ
+digit d = 48 + d
 
--- w columns, from the last one back
-unfoldable pub columnsOf : ℕ → Pen → List ℕ
-columnsOf zero p = []
-columnsOf (suc w) p = columnsOf w (penNext p) ++ (penByte p ∷ [])
+-- the digits of a number that has at most n: those of its tenth, then its last one
+unfoldable pub digitsWithin : ℕ → ℕ → List ℕ
+digitsWithin zero v = []
+digitsWithin (suc n) v = cond (ltb v 10) (digit v ∷ []) (digitsWithin n (v / 10) ++ (digit (v % 10) ∷ []))
+
+-- the digits of a number, none leading but that of 0 itself; v + 1 are always enough
+unfoldable pub digits : ℕ → List ℕ
+digits v = digitsWithin (suc v) v
+
+-- its digits, after a minus (45) or none
+abbrev pub numeral : Bool → ℕ → List ℕ
+numeral minus v = cond minus (45 ∷ digits v) (digits v)
+
+abbrev pub spaces : ℕ → List ℕ
+spaces n = repeated n 32
+
+-- a text in w columns: spaces, then the text; of a longer one its last w characters
+unfoldable pub justified : ℕ → List ℕ → List ℕ
+justified w text = drop (length text) (spaces w ++ text)
 
 -- a number in w columns, with a minus before it or none
 abbrev pub columns : ℕ → Bool → ℕ → List ℕ
-columns w minus n = columnsOf w (record { rest = n; digit = true; minus = minus })
+columns w minus v = justified w (numeral minus v)
+
+abbrev pub number : ℕ → ℕ → List ℕ
+number w v = columns w false v
+
+-- ---- the answers
 
 -- "letter and number (3 columns, 0 accepted)"
 abbrev pub headBytes : ℕ → ℕ → List ℕ
-headBytes letter number = letter ∷ columns 3 false number
+headBytes letter n = letter ∷ number 3 n
 
 -- "the count (7)"
 abbrev pub countBytes : ℕ → List ℕ
-countBytes n = columns 7 false n
+countBytes n = number 7 n
 
 -- "21 counts (7 each)"
 unfoldable pub countsBytes : List ℕ → List ℕ
@@ -46,4 +62,4 @@ loadBytes (negsuc n) = columns 8 true (suc n)
 
 -- "a line per lift in the same columns without a letter"
 abbrev pub liftBytes : ℕ → ℤ → List ℕ
-liftBytes time load = columns 15 false time ++ loadBytes load
+liftBytes time load = number 15 time ++ loadBytes load

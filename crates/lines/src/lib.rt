@@ -11,6 +11,9 @@ ghost use Rattle.lines.specs.Columns as Columns;
 ghost use Rattle.lines.specs.Columns.{fieldIn, valueOf};
 ghost use Rattle.lines.specs.Forms as Forms;
 ghost use Rattle.lines.specs.Printed as Printed;
+ghost use Rattle.lines.specs.Pen as Pens;
+
+pub mod page;
 
 const MINUS: u8 = 45;
 
@@ -39,6 +42,7 @@ pub enum Line {
     Drop,
     Search(u64, u64, i32, i32),
     Tally(u64, u64),
+    Page(u64, u64),
     Other,
 }
 
@@ -198,15 +202,19 @@ fn append_line(s: &[u8]) -> Line
     Line::Other
 }
 
-fn tally_line(s: &[u8]) -> Line
+// A line by a window of times: P, or T.
+fn window_line(s: &[u8], page: bool) -> Line
     requires { ⌜ length (now s) ≡ 31 ⌝ }
-    ensures { λ r. ⌜ r ≡ Forms.tallyLine (now (s .entry)) ⌝ }
+    ensures { λ r. ⌜ r ≡ Forms.windowLine page (now (s .entry)) ⌝ }
 {
     let a = field_at(s, 1, TIME_COLUMNS);
     let b = field_at(s, 16, TIME_COLUMNS);
     if is_time(a) & is_time(b) {
         let t1 = time_of(a);
         let t2 = time_of(b);
+        if page {
+            return Line::Page(t1, t2);
+        }
         return Line::Tally(t1, t2);
     }
     Line::Other
@@ -258,7 +266,10 @@ pub fn parse(s: &[u8]) -> Line
         return search_line(s);
     }
     if has_form(s, 84, 31) {
-        return tally_line(s);
+        return window_line(s, false);
+    }
+    if has_form(s, 80, 31) {
+        return window_line(s, true);
     }
     Line::Other
 }
@@ -271,7 +282,7 @@ pub struct Pen {
 }
 
 fn pen_byte(p: Pen) -> u8
-    ensures { λ r. ⌜ r ≡ Printed.penByte p ⌝ }
+    ensures { λ r. ⌜ r ≡ Pens.penByte p ⌝ }
 {
     if p.digit {
         return ZERO + (p.rest % 10) as u8;
@@ -283,7 +294,7 @@ fn pen_byte(p: Pen) -> u8
 }
 
 fn pen_next(p: Pen) -> Pen
-    ensures { λ r. ⌜ r ≡ Printed.penNext p ⌝ }
+    ensures { λ r. ⌜ r ≡ Pens.penNext p ⌝ }
 {
     if p.digit {
         return Pen {

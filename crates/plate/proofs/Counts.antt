@@ -1,5 +1,5 @@
--- Counting lifts one by one at their plates gives the counts of them all, in whatever order they come: place by place.
--- Assumes nothing.
+-- Counting lifts one by one at their plates gives the counts of them all, in whatever order they come: place by place. Together
+-- the counts are as many as the lifts. Assumes nothing.
 use mathlib.Core.Path.{_≡_, refl, sym, ap, _∙_}
 use mathlib.Core.Bool.{Bool, true, false, cond}
 use mathlib.Core.List.{List, [], _∷_, _++_}
@@ -10,8 +10,9 @@ use lib.ListN.{length, getD, set, length-set}
 use lib.Seq.{ext-getD, getD-set-same, getD-set-other}
 use borrow.Author.Tests.{eqb-true, eqb-false}
 use Rattle.lift.specs.Limits.{loadOf}
-use Rattle.plate.specs.Plate.{plateOf, countAt, countsFrom, countsOf, noCounts, countedIn}
+use Rattle.plate.specs.Plate.{plateOf, countAt, countsFrom, countsOf, noCounts, countedIn, total}
 use Rattle.plate.proofs.Bands.{plate-small}
+use Rattle.plate.proofs.Totals.{total-more}
 
 -- ---- a count
 
@@ -92,3 +93,19 @@ counts-more codes code =
     length-set (countsOf codes) p (getD (countsOf codes) p 0 + 1) ∙ length-counts codes in
     ext-getD 0 (countedIn (countsOf codes) code) (countsOf (code ∷ codes)) (n ∙ sym (length-counts (code ∷ codes))) (λ i h.
     place-more codes p i (plate-small (loadOf code)) (omega arith) ∙ sym (count-place (code ∷ codes) i (omega arith)))
+
+-- ---- the lifts of all plates together
+
+pub total-none : total noCounts ≡ 0
+unfolding total
+total-none = refl
+
+-- each lift is counted once, at one plate
+pub counts-total : (codes : List ℕ) → total (countsOf codes) ≡ length codes
+counts-total [] = ap total (sym counts-none) ∙ total-none
+counts-total (code ∷ codes) =
+    let l = length-counts codes in
+    let r = counts-total codes in
+    ap total (sym (counts-more codes code))
+    ∙ total-more (countsOf codes) (plateOf (loadOf code)) (omega (arith, plate-small (loadOf code)))
+    ∙ ap suc r

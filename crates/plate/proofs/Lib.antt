@@ -1,3 +1,4 @@
 pub mod Bands
+pub mod Totals
 pub mod Counts
 pub mod Lookups

@@ -49,3 +49,8 @@ noCounts = replicate 21 0
 
 abbrev pub countedIn : List ℕ → ℕ → List ℕ
 countedIn counts code = set counts (plateOf (loadOf code)) (getD counts (plateOf (loadOf code)) 0 + 1)
+
+-- the lifts of all plates together
+unfoldable pub total : List ℕ → ℕ
+total [] = 0
+total (n ∷ ns) = n + total ns

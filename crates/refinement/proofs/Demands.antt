@@ -11,7 +11,7 @@ use lib.ListN.{length}
 use lib.Signed.{ltZ}
 use borrow.Author.Tests.{le-ltb, eqb-true}
 use Rattle.lift.specs.Limits.{timeOk, loadOk}
-use Rattle.plate.specs.Plate.{noCounts, countsOf}
+use Rattle.plate.specs.Plate.{noCounts, countsOf, total}
 use Rattle.bounds.specs.Grounds.{queryGround}
 use Rattle.search.specs.Answers.{TallyAnswer}
 use Rattle.store.specs.World.{World}
@@ -30,6 +30,7 @@ use Rattle.refinement.proofs.AllCalls.{replies-are}
 use Rattle.refinement.proofs.EachCall.{all-kept}
 use Rattle.refinement.proofs.ReadBack.{segments-read}
 use Rattle.refinement.proofs.TallyFound.{tally-is}
+use Rattle.refinement.proofs.TallyHeld.{counts-held}
 
 -- ---- the paper log has no ground 10 and no ground 11
 
@@ -172,3 +173,17 @@ module _ (slots : ℕ) (least : 2 ≤ slots) (most : slots ≤ 4096) (nand nor :
           number = Paper.tallyNumber l k t1 t2;
           counts = cond (eqb (Paper.tallyNumber l k t1 t2) 0) (countsOf (codes (Paper.allLoads l t1 t2))) noCounts;
         }) (here .log)
+
+    -- it counts at most 320 lifts for each slot
+    pub tally-held : (k t1 t2 : ℕ) → total (tallyOutcome at-end k t1 t2 .counts) ≤ slots * 320
+    tally-held k t1 t2 =
+        let same = same-slots in
+        omega (
+          arith,
+          ap (λ (w : World). total (tallyOutcome w k t1 t2 .counts)) (here .world),
+          counts-held (here .history) (here .good) k t1 t2,
+        )
+
+    -- of 4,096 slots
+    pub tally-held-most : (k t1 t2 : ℕ) → total (tallyOutcome at-end k t1 t2 .counts) ≤ 1310720
+    tally-held-most k t1 t2 = omega (arith, tally-held k t1 t2)

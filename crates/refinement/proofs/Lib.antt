@@ -31,4 +31,5 @@ pub mod SkipWalk
 pub mod SearchFound
 pub mod SearchStep
 pub mod TallyFound
+pub mod TallyHeld
 pub mod Demands

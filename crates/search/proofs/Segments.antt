@@ -31,13 +31,13 @@ module _ (nand : List ℕ) (slots live : ℕ) (q : Query) (size : length nand �
   from n c = rowsFrom n nand slots live q c
 
   -- one step, where f gives the rows from the next cursor on
-  abbrev after : (Cursor → Option (List (List ℕ))) → Step → Option (List (List ℕ))
+  abbrev pub after : (Cursor → Option (List (List ℕ))) → Step → Option (List (List ℕ))
   after f End = some []
   after f Damage = none
   after f (Pass d) = f d
   after f (Visit s d) = joinRows (f d) (closedRows nand s q)
 
-  from-step : (n : ℕ) (c : Cursor) (s : Step) → advanceOf nand slots live q c ≡ s → from (suc n) c ≡ after (from n) s
+  pub from-step : (n : ℕ) (c : Cursor) (s : Step) → advanceOf nand slots live q c ≡ s → from (suc n) c ≡ after (from n) s
   unfolding rowsFrom
   from-step n c s e = rw (e, rowsFrom) (same s)
     where

@@ -4,7 +4,7 @@
 use mathlib.Core.Bool.{cond}
 use mathlib.Core.Option.{Option, none, some}
 use mathlib.Core.List.{List, [], _++_}
-use Prim.Native.Nat.{ℕ, zero, suc, _+_}
+use Prim.Native.Nat.{ℕ, zero, suc, _+_, _*_}
 use Rattle.walk.specs.declared.Cursor.{Cursor}
 use Rattle.walk.specs.declared.Log.{Log}
 use Rattle.walk.specs.declared.Query.{Query}
@@ -36,3 +36,8 @@ closedFound nand g q c = cond (c .good) (rowsFrom (g .current + 1) nand (g .slot
 -- all rows; none where damage is met
 unfoldable pub foundRows : List ℕ → List ℕ → List ℕ → Log → Query → Option (List (List ℕ))
 foundRows nand nor page g q = joinRows (closedFound nand g q (startOf nand g q)) (openRows nand nor page g q)
+
+-- the most rows that are found, whatever the chips hold: 320 for each slot and for the open segment, as damaged pointers can lead into
+-- its slot as well
+abbrev pub mostFound : ℕ → ℕ
+mostFound slots = (slots + 1) * 320

@@ -1,2 +1,3 @@
 pub mod Obeying
 pub mod Typing
+pub mod ServicePage

@@ -5,7 +5,7 @@ use Prim.Native.Nat.{ℕ}
 use lib.IntN.{ℤ}
 use lib.ListN.{replicate}
 use Rattle.lines.specs.declared.Line.{Line}
-use Rattle.lines.specs.declared.Line.the-variants.{Append, Close, Drop, Search, Tally, Other}
+use Rattle.lines.specs.declared.Line.the-variants.{Append, Close, Drop, Search, Tally, Page, Other}
 use Rattle.lines.specs.Forms.{lineOf}
 use Rattle.store.specs.declared.State.{State}
 use Rattle.store.specs.World.{World, world}
@@ -34,6 +34,10 @@ module _ (w : World) (b : List ℕ) {l : Line} (p : l ≡ lineOf b) where
   pub tally-obeyed : {t1 t2 : ℕ} → l ≡ Tally t1 t2 → w ≡ obeyed w (lineOf b)
   unfolding obeyed
   tally-obeyed e = rw (← p, e)
+
+  pub page-obeyed : {t1 t2 : ℕ} → l ≡ Page t1 t2 → w ≡ obeyed w (lineOf b)
+  unfolding obeyed
+  page-obeyed e = rw (← p, e)
 
   pub other-obeyed : l ≡ Other → w ≡ obeyed w (lineOf b)
   unfolding obeyed

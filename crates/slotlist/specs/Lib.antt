@@ -1,1 +1,2 @@
 pub mod Obeyed
+pub mod ServicePage

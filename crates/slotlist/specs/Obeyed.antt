@@ -1,12 +1,12 @@
 -- What a line, and a run of bytes, does to the chips and the state (document 01, "Program"), with S = 2: "A appends (notes 0),
--- C closes, G drops, Q searches .., T tallies". Assumes nothing.
+-- C closes, G drops, Q searches .., T tallies"; P prints the tally's page (document 02, W-201). Assumes nothing.
 use mathlib.Core.Bool.{cond}
 use mathlib.Core.List.{List, [], _∷_, _++_}
 use Prim.Native.Nat.{ℕ}
 use lib.Dec.{eqb, ltb}
 use lib.ListN.{length, take, replicate}
 use Rattle.lines.specs.declared.Line.{Line}
-use Rattle.lines.specs.declared.Line.the-variants.{Append, Close, Drop, Search, Tally, Other}
+use Rattle.lines.specs.declared.Line.the-variants.{Append, Close, Drop, Search, Tally, Page, Other}
 use Rattle.lines.specs.Forms.{lineOf}
 use Rattle.store.specs.World.{World, world}
 use Rattle.store.specs.Calls.{appendOutcome, closeOutcome, dropOutcome}
@@ -18,6 +18,7 @@ obeyed w Close = closeOutcome w 2 .world
 obeyed w Drop = dropOutcome w 2 .world
 obeyed w (Search t1 t2 k1 k2) = w
 obeyed w (Tally t1 t2) = w
+obeyed w (Page t1 t2) = w
 obeyed w Other = w
 
 -- chips and state, and the bytes since the last line feed

@@ -1,4 +1,4 @@
-// slotlist (document 01, "Program"): lines on standard input, calls of a store of two slots, answers on standard output.
+// slotlist (document 01, "Program"; P: document 02, W-201): lines on standard input, calls of a store of two slots, answers on standard output.
 // What a line says and how an answer is laid out is the crate lines'; what a call does is the crate store's. No contract can say
 // what is read or written: the contracts here say what a run of bytes does to chips and state (`feed`), and keep the areas
 // within their bounds.
@@ -11,7 +11,9 @@ ghost use Prim.Native.Nat.{_+_, _*_, _≤_};
 ghost use lib.ListN.{length, take};
 ghost use Rattle.lines.specs.Forms.{lineOf};
 ghost use Rattle.store.specs.World.{world};
+ghost use Rattle.store.specs.Queries.{tallyOutcome};
 ghost use Rattle.slotlist.specs.Obeyed.{obeyed, desk, kept, typed, typedAll};
+ghost use Rattle.slotlist.specs.ServicePage.{pageAnswer, PagePut};
 
 const SLOTS: u64 = 2;
 
@@ -29,11 +31,15 @@ const LETTER_C: u8 = 67;
 
 const LETTER_G: u8 = 71;
 
+const LETTER_P: u8 = 80;
+
 const LETTER_Q: u8 = 81;
 
 const LETTER_T: u8 = 84;
 
 const LINE_FEED: u8 = 10;
+// Letter and number, and the 23 lines of a page, each with its line feed.
+const PAGE_ANSWER_BYTES: usize = 948;
 // The longest form has 47 bytes; one byte more is of no form, and what follows is not kept.
 const LINE_BYTES: usize = 48;
 
@@ -114,6 +120,31 @@ fn say_tally(t: Tally) {
     io::write_all(1, &o);
 }
 
+// What a P line prints, from the area's start, and how many bytes it has.
+fn page_answer(o: &mut [u8], nand: &[u8], nor: &[u8], s: State, t1: u64, t2: u64) -> usize
+    requires { ⌜ 948 ≤ length (now o) ⌝ }
+    ensures { λ r. ⌜ PagePut (now (o .entry)) (now (o .exit)) r
+        (pageAnswer (tallyOutcome (world (now (nand .entry)) (now (nor .entry)) s) 2 t1 t2) t1 t2) ⌝ }
+{
+    let t = s.tally(nand, nor, SLOTS, t1, t2);
+    let n = t.number;
+    let counts = t.counts;
+    lines::put_head(o, LETTER_P, n);
+    o[4] = LINE_FEED;
+    if n != 0 {
+        return 5;
+    }
+    lines::page::put_page(o, 5, t1, t2, counts);
+    PAGE_ANSWER_BYTES
+}
+
+// Prints a tally's service page.
+fn say_page(nand: &[u8], nor: &[u8], s: State, t1: u64, t2: u64) {
+    let mut o = [LINE_FEED; PAGE_ANSWER_BYTES];
+    let n = page_answer(&mut o, nand, nor, s, t1, t2);
+    io::write_all(1, &o[..n]);
+}
+
 // Searches, and prints what was found.
 fn search(nand: &[u8], nor: &[u8], area: &mut [u8], s: State, t1: u64, t2: u64, k1: i32, k2: i32) {
     let f = s.search(nand, nor, SLOTS, t1, t2, k1, k2, area);
@@ -150,6 +181,10 @@ fn obey(nand: &mut [u8], nor: &mut [u8], area: &mut [u8], s: State, line: &[u8])
         }
         Line::Tally(t1, t2) => {
             say_tally(s.tally(nand, nor, SLOTS, t1, t2));
+            s
+        }
+        Line::Page(t1, t2) => {
+            say_page(nand, nor, s, t1, t2);
             s
         }
         Line::Other => {

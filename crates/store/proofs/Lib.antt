@@ -7,4 +7,5 @@ pub mod Forced
 pub mod Blocked
 pub mod Appended
 pub mod Asked
+pub mod TallyMost
 pub mod Plain

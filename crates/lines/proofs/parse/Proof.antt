@@ -3,7 +3,7 @@ use mathlib.Core.Path.{_≡_}
 use mathlib.Core.Bool.{false}
 use Rattle.lines.specs.Forms.{hasForm}
 use Rattle.lines.proofs.Reading.{form-length}
-use Rattle.lines.proofs.Forms.{came, is-append, is-close, is-drop, is-search, is-tally, is-other}
+use Rattle.lines.proofs.Forms.{came, is-append, is-close, is-drop, is-search, is-tally, is-page, is-other}
 use native.Mathlib.Omega.{arith}
 use borrow.Author.Needs.{needs}
 use Rattle.lines.proofs.parse.Statement.{statement}
@@ -20,6 +20,10 @@ no-drop c = came (c .before .has-form3 .ensures) (c .if3 .left)
 
 no-search : (c : tie.Else4) → hasForm (c .before .before .before .before .before .before .before .before .before .args .s .now) 81 47 ≡ false
 no-search c = came (c .before .has-form4 .ensures) (c .if4 .left)
+
+no-tally : (c : tie.Else5)
+    → hasForm (c .before .before .before .before .before .before .before .before .before .before .before .args .s .now) 84 31 ≡ false
+no-tally c = came (c .before .has-form5 .ensures) (c .if5 .left)
 
 has-form-requires : tie.Need-has-form-requires
 has-form-requires c κs = search needs
@@ -60,8 +64,8 @@ returns-4 c =
 has-form-requires-5 : tie.Need-has-form-requires-5
 has-form-requires-5 c κs = search needs
 
-tally-line-requires : tie.Need-tally-line-requires
-tally-line-requires c κs = form-length _ 84 31 (came (c .before .has-form5 .ensures) (c .if5 .taken))
+window-line-requires : tie.Need-window-line-requires
+window-line-requires c κs = form-length _ 84 31 (came (c .before .has-form5 .ensures) (c .if5 .taken))
 
 returns-5 : tie.Need-returns-5
 returns-5 c =
@@ -69,14 +73,31 @@ returns-5 c =
     let d = q .before .before in
     let b = d .before .before in
     is-tally _ (no-append (b .before .before)) (no-close b) (no-drop d) (no-search q)
-    (came (c .before .before .has-form5 .ensures) (c .before .if5 .taken)) (c .tally-line .ensures)
+    (came (c .before .before .has-form5 .ensures) (c .before .if5 .taken)) (c .window-line .ensures)
+
+has-form-requires-6 : tie.Need-has-form-requires-6
+has-form-requires-6 c κs = search needs
+
+window-line-requires-2 : tie.Need-window-line-requires-2
+window-line-requires-2 c κs = form-length _ 80 31 (came (c .before .has-form6 .ensures) (c .if6 .taken))
 
 returns-6 : tie.Need-returns-6
 returns-6 c =
-    let q = c .before .before in
+    let t = c .before .before .before in
+    let q = t .before .before in
     let d = q .before .before in
     let b = d .before .before in
-    is-other _ (no-append (b .before .before)) (no-close b) (no-drop d) (no-search q) (came (c .before .has-form5 .ensures) (c .if5 .left))
+    is-page _ (no-append (b .before .before)) (no-close b) (no-drop d) (no-search q) (no-tally t)
+    (came (c .before .before .has-form6 .ensures) (c .before .if6 .taken)) (c .window-line2 .ensures)
+
+returns-7 : tie.Need-returns-7
+returns-7 c =
+    let t = c .before .before in
+    let q = t .before .before in
+    let d = q .before .before in
+    let b = d .before .before in
+    is-other _ (no-append (b .before .before)) (no-close b) (no-drop d) (no-search q) (no-tally t)
+    (came (c .before .has-form6 .ensures) (c .if6 .left))
 
 pub parse-spec : {M : Type 1} → statement M
 parse-spec =
@@ -93,6 +114,9 @@ parse-spec =
     search-line-requires
     returns-4
     has-form-requires-5
-    tally-line-requires
+    window-line-requires
     returns-5
-    returns-6)
+    has-form-requires-6
+    window-line-requires-2
+    returns-6
+    returns-7)

@@ -1,9 +1,9 @@
 -- `lines::put_head` meets its contract: the letter, and the number after it.
 use mathlib.Core.Path.{_≡_, _∙_}
-use mathlib.Core.Bool.{false}
 use lib.ListN.{length, length-set}
-use Rattle.lines.specs.Printed.{columns}
-use Rattle.lines.proofs.Printing.{head-printed, length-columns}
+use Rattle.lines.specs.Printed.{number}
+use Rattle.lines.proofs.Justified.{length-justified}
+use Rattle.lines.proofs.Printing.{head-printed}
 use native.Mathlib.Omega.{arith}
 use borrow.Author.Needs.{needs}
 use Rattle.lines.proofs.put_head.Statement.{statement}
@@ -21,7 +21,7 @@ same-length c = c .before .before .put-number .kept .0 ∙ simp length-set
 returns : tie.Need-returns
 returns c =
     let a = c .before .before .before .before .before .args in
-    let l : length (columns 3 false (a .number)) ≡ 3 = length-columns 3 _ in
+    let l : length (number 3 (a .number)) ≡ 3 = length-justified 3 _ in
     c .before .before .put-number .ensures ∙ head-printed _ _ _ (omega arith)
 
 pub put-head-spec : {M : Type 1} → statement M

@@ -1,9 +1,11 @@
 -- `lines::put_number` meets its contract. The invariant: what is left to write, written, gives what the whole gives.
-use mathlib.Core.Path.{_≡_, refl, sym, _∙_}
-use Prim.Native.Nat.{_+_, _-_, _≤_, _<_}
+use mathlib.Core.Path.{_≡_, refl, ap, _∙_}
+use Prim.Native.Nat.{_+_, _-_, _≤_}
 use lib.ListN.{length, length-set}
 use Rattle.codec.specs.Area.{splice}
-use Rattle.lines.specs.Printed.{columnsOf, columns}
+use Rattle.lines.specs.Printed.{columns}
+use Rattle.lines.specs.Pen.{columnsOf}
+use Rattle.lines.proofs.Justified.{pen-written}
 use Rattle.lines.proofs.Printing.{column-step, columns-done}
 use native.Mathlib.Omega.{arith}
 use borrow.Author.Needs.{needs}
@@ -18,7 +20,7 @@ abbrev μ-loop : tie.MeasureT-loop
 μ-loop s₀ at width minus v p₀ left₀ s p left = left
 
 loop-holds : tie.Need-loop-holds Inv-loop μ-loop
-loop-holds c = (search needs, (refl, refl))
+loop-holds c = (search needs, (refl, ap (splice _ _) (pen-written _ _ _)))
 
 sub-left : tie.Need-sub-left Inv-loop μ-loop
 sub-left c = search needs

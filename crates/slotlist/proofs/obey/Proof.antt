@@ -3,7 +3,7 @@ use mathlib.Core.Path.{_≡_}
 use mir.Syntax.{w32}
 use mir.Val.{toZ, ofZ}
 use mir.ValLaws.{toZ-ofZ}
-use Rattle.slotlist.proofs.Obeying.{append-obeyed, close-obeyed, drop-obeyed, search-obeyed, tally-obeyed, other-obeyed}
+use Rattle.slotlist.proofs.Obeying.{append-obeyed, close-obeyed, drop-obeyed, search-obeyed, tally-obeyed, page-obeyed, other-obeyed}
 use native.Mathlib.Omega.{arith}
 use borrow.Author.Needs.{needs}
 use Rattle.slotlist.proofs.obey.Statement.{statement}
@@ -53,6 +53,12 @@ tally-requires c κs = search needs
 
 say-tally-requires : tie.Need-say-tally-requires
 say-tally-requires c κs = search needs
+
+enum-known-l-4 : tie.Need-enum-known-l-4
+enum-known-l-4 c = search needs
+
+say-page-requires : tie.Need-say-page-requires
+say-page-requires c κs = search needs
 
 enum-told-3 : tie.Need-enum-told-3
 enum-told-3 c = search needs
@@ -126,8 +132,19 @@ returns-5 c =
     let k = c .before .before .before .before .before in
     tally-obeyed _ _ (k .before .before .parse .ensures) (k .l3 .given .1)
 
+same-length-12 : tie.Need-same-length-12
+same-length-12 c = search needs
+
+same-length-13 : tie.Need-same-length-13
+same-length-13 c = search needs
+
 returns-6 : tie.Need-returns-6
 returns-6 c =
+    let k = c .before .before .before .before in
+    page-obeyed _ _ (k .before .before .parse .ensures) (k .l4 .given .1)
+
+returns-7 : tie.Need-returns-7
+returns-7 c =
     let k = c .before .before in
     other-obeyed _ _ (k .before .before .parse .ensures) (k .enum-told3 .given .1)
 
@@ -150,6 +167,8 @@ obey-spec =
     enum-known-l-3
     tally-requires
     say-tally-requires
+    enum-known-l-4
+    say-page-requires
     enum-told-3
     slice-aggregate-write-all
     write-all-requires
@@ -169,4 +188,7 @@ obey-spec =
     same-length-10
     same-length-11
     returns-5
-    returns-6)
+    same-length-12
+    same-length-13
+    returns-6
+    returns-7)
