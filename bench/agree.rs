@@ -52,9 +52,9 @@ fn poke(random: &mut Random, store: &mut Proved) {
         let slot = random.within(0, slots as i64 - 1) as usize * SLOT_BYTES;
         match random.within(0, 5) {
             0 => store.state[random.within(0, STATE_BYTES as i64 - 1) as usize] = value,
-            1 => store.state[random.within(0, 66) as usize] = value,
+            1 => store.state[random.within(0, 74) as usize] = value,
             2 => store.nor[random.within(0, 5_300) as usize] = value,
-            3 => store.nand[slot + 31 * 512 + random.within(0, 79) as usize] = value,
+            3 => store.nand[slot + 31 * 512 + random.within(0, 95) as usize] = value,
             4 => store.nand[slot + random.within(20 * 512, 31 * 512 - 1) as usize] = value,
             _ => store.nand[slot + random.within(0, SLOT_BYTES as i64 - 1) as usize] = value,
         }
@@ -64,13 +64,13 @@ fn poke(random: &mut Random, store: &mut Proved) {
 fn trial(random: &mut Random, store: &Proved, last: u64, seen: &mut [usize; 13]) {
     let state = State::from_bytes(&store.state);
     let plain = InPlace { state, nand: store.nand.clone(), nor: store.nor.clone(), slots: store.slots };
-    let time = [last + 1, last + 1, last + 5, last, TIME_MAX, TIME_MAX + 1][random.within(0, 5) as usize];
+    let time = [last, last, last + 5, last - 1, TIME_MAX, TIME_MAX + 1][random.within(0, 5) as usize];
     let load = [500, 740, -20_000, LOAD_MAX, LOAD_MAX + 1, 2_500][random.within(0, 5) as usize];
     let lift = Lift { time, load, note: [3; 20] };
     let [mut one, mut two] = [store.clone(), store.clone()];
     let [mut one_plain, mut two_plain] = [plain.clone(), plain.clone()];
     // Two appends in a row, then a close and a drop.
-    let again = Lift { time: time + 1, ..lift };
+    let again = Lift { time: time + random.within(0, 1) as u64, ..lift };
     let calls = [
         (one.put(&lift), number(one_plain.put(&lift))),
         (one.put(&again), number(one_plain.put(&again))),

@@ -47,8 +47,7 @@ impl Field {
         let lifts = field.next_lifts(slots as usize * 330 + 2_000);
         field.proved.append_all(&lifts);
         field.in_place.append_all(&lifts);
-        let live = field.proved.live();
-        let retained = &lifts[lifts.partition_point(|lift| lift.time < live)..];
+        let retained = &lifts[lifts.len() - field.proved.retained()..];
         for contender in field.contenders().into_iter().skip(2).flatten() {
             contender.append_all(retained);
         }
@@ -71,13 +70,12 @@ impl Field {
 
     /// After appends: what the store dropped is dropped by the others, and the area has room for all.
     pub fn settle(&mut self, appended: &[Lift]) {
-        let live = self.proved.live();
+        let retained = self.proved.retained();
         for contender in self.contenders().into_iter().flatten() {
-            contender.forget_before(live);
+            contender.keep_last(retained);
         }
-        self.span = (live, appended.last().expect("some lifts").time);
-        let retained: u64 = self.proved.tally(self.span.0, self.span.1).iter().sum();
-        self.rows = vec![0; retained as usize * RECORD_BYTES];
+        self.span = (self.scan.first_time(), appended.last().expect("some lifts").time);
+        self.rows = vec![0; retained * RECORD_BYTES];
     }
 
     pub fn retained(&self) -> usize {

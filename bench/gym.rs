@@ -1,4 +1,5 @@
-//! The input: a seeded gym. Members come on days of training, lift in sets, and grow stronger over the weeks.
+//! The input: a seeded gym. Members come on days of training, lift in sets, with one arm or with both, and grow stronger over the
+//! weeks.
 use crate::lift::Lift;
 
 pub const DAY: u64 = 86_400_000;
@@ -61,7 +62,8 @@ impl Gym {
         }
     }
 
-    /// A set: lifts some seconds apart at one stack of plates; the cell reads up to 0.6 kg beside it.
+    /// A set: lifts some seconds apart at one stack of plates; the cell reads up to 0.6 kg beside it. In about every other set
+    /// left and right lift at one time.
     fn set(&mut self, day: u64, time: &mut u64, lifts: &mut Vec<Lift>) {
         let random = &mut self.random;
         let number = random.within(0, self.members.len() as i64 - 1) as usize;
@@ -70,12 +72,17 @@ impl Gym {
         let weeks = (day / 7 + 13 * number as u64) % 104;
         let gained = member.yearly * weeks as i64 / 52;
         let plates = (member.plates + gained + random.within(-1, 1)) as i32;
-        for repetition in 0..random.within(6, 14) {
-            *time += random.within(1_800, 5_500) as u64;
+        let arms = random.within(1, 2);
+        for lift in 0..random.within(6, 14) {
+            let (repetition, arm) = (lift / arms, lift % arms);
+            if arm == 0 {
+                *time += random.within(1_800, 5_500) as u64;
+            }
             let spread = random.within(-30, 30) + random.within(-30, 30);
             let mut note = [0; 20];
             note[0] = number as u8;
             note[1] = repetition as u8;
+            note[2] = arm as u8;
             note[4..12].copy_from_slice(&random.next().to_le_bytes());
             lifts.push(Lift { time: *time, load: plates * PLATE + spread as i32, note });
         }

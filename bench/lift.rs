@@ -24,8 +24,8 @@ pub trait Contender {
     /// The rows found go to the start of the area, oldest first; their number is handed back.
     fn search(&mut self, window: &Window, rows: &mut [u8]) -> usize;
     fn tally(&mut self, t1: u64, t2: u64) -> [u64; 21];
-    /// Lifts before this time are no longer retained.
-    fn forget_before(&mut self, _time: u64) {}
+    /// Only the last so many lifts are still retained.
+    fn keep_last(&mut self, _lifts: usize) {}
 
     fn append_all(&mut self, lifts: &[Lift]) {
         for lift in lifts {

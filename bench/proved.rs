@@ -1,6 +1,6 @@
 //! The store over its C interface, `store_abi`.
 use crate::lift::{Contender, Lift};
-use plain::{Window, NOR_BYTES, SLOT_BYTES, STATE_BYTES};
+use plain::{Window, NOR_BYTES, SLOT_BYTES, STATE_BYTES, TIME_MAX};
 
 extern "C" {
     fn store_format(
@@ -194,9 +194,9 @@ impl Proved {
         unsafe { store_plate(load, answer.as_mut_ptr(), answer.len()) }
     }
 
-    /// The oldest live time, as the state has it.
-    pub fn live(&self) -> u64 {
-        u64::from_le_bytes(self.state[19..27].try_into().unwrap())
+    /// How many lifts are retained.
+    pub fn retained(&mut self) -> usize {
+        self.tally(0, TIME_MAX).iter().sum::<u64>() as usize
     }
 }
 

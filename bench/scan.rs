@@ -7,6 +7,13 @@ pub struct Scan {
     lifts: Vec<Lift>,
 }
 
+impl Scan {
+    /// The time of the oldest lift.
+    pub fn first_time(&self) -> u64 {
+        self.lifts[0].time
+    }
+}
+
 impl Contender for Scan {
     fn append(&mut self, lift: &Lift) {
         self.lifts.push(*lift);
@@ -33,7 +40,7 @@ impl Contender for Scan {
         counts
     }
 
-    fn forget_before(&mut self, time: u64) {
-        self.lifts.retain(|lift| lift.time >= time);
+    fn keep_last(&mut self, lifts: usize) {
+        self.lifts.drain(..self.lifts.len() - lifts);
     }
 }

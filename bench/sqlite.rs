@@ -41,11 +41,12 @@ const SCHEMA: &str = "PRAGMA journal_mode = OFF; PRAGMA synchronous = OFF;
     CREATE INDEX by_time_and_load ON lifts (time, load);
     BEGIN";
 const INSERT: &str = "INSERT INTO lifts VALUES (?1, ?2, ?3)";
+/// Rows are numbered as they arrive, so that lifts at one time stay in order.
 const SEARCH: &str = "SELECT time, load, note FROM lifts
-    WHERE time BETWEEN ?1 AND ?2 AND load BETWEEN ?3 AND ?4 ORDER BY time";
+    WHERE time BETWEEN ?1 AND ?2 AND load BETWEEN ?3 AND ?4 ORDER BY time, rowid";
 const TALLY: &str = "SELECT CASE WHEN load <= 250 THEN 0 WHEN load > 9750 THEN 20 ELSE (load + 249) / 500 END AS plate,
     COUNT(*) FROM lifts WHERE time BETWEEN ?1 AND ?2 GROUP BY plate";
-const FORGET: &str = "DELETE FROM lifts WHERE time < ?1";
+const FORGET: &str = "DELETE FROM lifts WHERE rowid <= (SELECT MAX(rowid) FROM lifts) - ?1";
 
 pub struct Sqlite {
     db: *mut c_void,
@@ -138,8 +139,8 @@ impl Contender for Sqlite {
         counts
     }
 
-    fn forget_before(&mut self, time: u64) {
-        bind(self.forget, &[time as i64]);
+    fn keep_last(&mut self, lifts: usize) {
+        bind(self.forget, &[lifts as i64]);
         run(self.forget, || {});
     }
 }

@@ -1,7 +1,6 @@
 //! Append: every ground is looked for before anything is written.
 use crate::bloom::{self, SECTIONS_AT, SECTION_BYTES};
 use crate::bytes::{is_erased, page, program, put, slot, slot_mut, slot_of};
-use crate::header::{self, Header};
 use crate::state::State;
 use crate::tree::{self, entry_at, Plan, BUCKET_BYTES, MID_AT, TREE_BYTES};
 use crate::{load_ok, stored, Ground, CODE_MAX, LIFTS_PER_PAGE, LIFTS_PER_SECTION, PAGE_BYTES};
@@ -25,18 +24,14 @@ impl State {
         let buckets: &[u8; TREE_BYTES] = nor[..TREE_BYTES].try_into().unwrap();
         let plan = tree::plan(buckets, self.buckets, self.count, &self.loads, code)?;
         if let Plan::Full = plan {
-            let live = self.live_after_close(nand, slots)?;
             self.check_pages_due(nand, slots)?;
             self.close_segment(nand, nor, slots);
-            if let Some(live) = live {
-                self.forget_oldest(nand, slots, live);
-            }
         } else {
-            let live = self.live_after_first(nand, slots)?;
             self.check_writes(nand, nor, slots, &plan)?;
-            if let Some(live) = live {
-                self.forget_oldest(nand, slots, live);
-            }
+        }
+        // The first lift of a segment takes the slot of the oldest, if all are in use.
+        if self.count == 0 && u64::from(self.open - self.oldest) >= slots {
+            self.forget_oldest(nand, slots);
         }
         self.index(nor, plan, code);
         self.record(nand, slots, time, code, note);
@@ -51,36 +46,12 @@ impl State {
         } else if !load_ok(load) {
             Err(Ground::LoadLimit)
         } else if time < self.next {
-            Err(Ground::TimeBelowNext)
+            Err(Ground::TimeBelowLast)
         } else if self.open >= LAST_SERIAL {
             Err(Ground::SerialsUsedUp)
         } else {
             Ok(())
         }
-    }
-
-    /// The oldest live time after a forced drop, if the first lift of the open segment forces one.
-    fn live_after_first(&self, nand: &[u8], slots: u64) -> Result<Option<u64>, Ground> {
-        if self.count == 0 && u64::from(self.open - self.oldest) >= slots {
-            self.live_without_oldest(nand, slots).map(Some)
-        } else {
-            Ok(None)
-        }
-    }
-
-    /// The same after a close in this call; of two slots the header read is the one to be programmed.
-    fn live_after_close(&self, nand: &[u8], slots: u64) -> Result<Option<u64>, Ground> {
-        let open = self.open + 1;
-        if u64::from(open - self.oldest) < slots {
-            return Ok(None);
-        }
-        let serial = self.oldest + 1;
-        let header = if serial == self.open {
-            Header::read(&header::image(self), slots, open)?
-        } else {
-            Header::load(nand, slot_of(serial, slots), slots, open)?
-        };
-        Ok(Some(header.start))
     }
 
     /// Ground 10 over the NOR bytes due for writing, then ground 11 over the page that this lift fills.
@@ -163,9 +134,6 @@ impl State {
             self.start = time;
             self.low = load;
             self.high = load;
-            if self.oldest == self.open {
-                self.live = time;
-            }
         } else {
             self.low = self.low.min(load);
             self.high = self.high.max(load);
@@ -177,6 +145,6 @@ impl State {
             self.loads[12] = load;
         }
         self.count += 1;
-        self.next = time + 1;
+        self.next = time;
     }
 }

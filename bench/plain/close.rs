@@ -58,7 +58,7 @@ impl State {
         }
         program(slot, HEADER_PAGE, &header::image(self));
         nor.fill(255);
-        let pointer = Pointer { slot: number as u16, time: self.start };
+        let pointer = Pointer { slot: number as u16, serial: self.open, time: self.start };
         self.heads[..level_of(self.open)].fill(pointer);
         self.open_next();
     }

@@ -1,11 +1,12 @@
 //! The header page of a closed segment: read with its damage test, and made for a close.
 use crate::bloom::{fragment_of, sections_of};
 use crate::bytes::{page, put, slot, u16_at, u32_at, u64_at};
-use crate::state::{Pointer, State};
+use crate::state::{Pointer, State, POINTER_BYTES};
 use crate::{stored, Ground, BUCKETS_MAX, CODE_MAX, HEADER_PAGE, LIFTS_MAX, PAGE_BYTES, TIME_MAX};
 
+const FORM_AT: usize = 10;
+const FORM: u8 = 1;
 const POINTERS_AT: usize = 40;
-const POINTER_BYTES: usize = 10;
 
 pub struct Header {
     pub serial: u32,
@@ -18,12 +19,9 @@ pub struct Header {
 }
 
 impl Header {
+    /// The header of a slot without damage, its serial below `before`.
     pub fn load(nand: &[u8], number: usize, slots: u64, before: u32) -> Result<Header, Ground> {
-        Header::read(page(slot(nand, number), HEADER_PAGE), slots, before)
-    }
-
-    /// A header page without damage, its serial below `before`.
-    pub fn read(h: &[u8; PAGE_BYTES], slots: u64, before: u32) -> Result<Header, Ground> {
+        let h = page(slot(nand, number), HEADER_PAGE);
         let header = Header {
             serial: u32_at(h, 0),
             count: u16_at(h, 4),
@@ -44,7 +42,7 @@ impl Header {
             && header.low <= header.high
             && header.high <= CODE_MAX;
         let pointers = header.next.iter().all(|p| p.fits(slots) && p.time <= TIME_MAX);
-        if counts && span && pointers && header.serial < before {
+        if h[FORM_AT] == FORM && counts && span && pointers && header.serial < before {
             Ok(header)
         } else {
             Err(Ground::Damage)
@@ -68,8 +66,9 @@ pub fn image(s: &State) -> [u8; PAGE_BYTES] {
     h[7] = sections as u8;
     h[8] = fragment_of(sections) as u8;
     h[9] = level as u8;
+    h[FORM_AT] = FORM;
     put(&mut h, 16, s.start.to_le_bytes());
-    put(&mut h, 24, (s.next - 1).to_le_bytes());
+    put(&mut h, 24, s.next.to_le_bytes());
     put(&mut h, 32, stored(s.low).to_le_bytes());
     put(&mut h, 36, stored(s.high).to_le_bytes());
     for (i, &head) in s.heads.iter().enumerate() {

@@ -1,4 +1,5 @@
-//! The rules of document 01 in place and without proofs: the same chips and bytes, the state a struct that the calls change.
+//! The rules of document 01, in form 1 of W-202, in place and without proofs: the same chips and bytes, the state a struct that the
+//! calls change.
 #![no_std]
 #![forbid(unsafe_code)]
 
@@ -26,7 +27,7 @@ pub enum Ground {
     TimeLimit,
     LoadLimit,
     BackwardRange,
-    TimeBelowNext,
+    TimeBelowLast,
     SerialsUsedUp,
     NothingThere,
     Damage,

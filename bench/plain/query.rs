@@ -98,19 +98,19 @@ impl<'a> Log<'a> {
         if state.count > 0 {
             let segment = Segment::open(self);
             take(&segment, segment.matches(asked)?);
-            if state.start <= asked.t1 {
+            if state.start < asked.t1 {
                 return Ok(());
             }
         }
         let (mut pointer, mut before) = self.newest_up_to(asked.t2)?;
-        while pointer.is_live(state.live) {
+        while pointer.is_live(state.oldest) {
             let number = usize::from(pointer.slot);
             let header = Header::load(self.nand, number, self.slots, before)?;
             if self.may_match(number, &header, asked) {
                 let segment = Segment::closed(self.nand, number, header.count, header.buckets);
                 take(&segment, segment.matches(asked)?);
             }
-            if header.start <= asked.t1 {
+            if header.start < asked.t1 {
                 break;
             }
             (pointer, before) = (header.next[0], header.serial);
@@ -122,7 +122,7 @@ impl<'a> Log<'a> {
     fn newest_up_to(&self, t2: u64) -> Result<(Pointer, u32), Ground> {
         let (mut pointers, mut before) = (self.state.heads, self.state.open);
         for level in (0..4).rev() {
-            while pointers[level].is_live(self.state.live) && pointers[level].time > t2 {
+            while pointers[level].is_live(self.state.oldest) && pointers[level].time > t2 {
                 let number = usize::from(pointers[level].slot);
                 let header = Header::load(self.nand, number, self.slots, before)?;
                 (pointers, before) = (header.next, header.serial);

@@ -1,24 +1,31 @@
-//! The state: its fields, its 775 bytes, its bounds (ground 3), format and drop.
+//! The state: its fields, its 783 bytes, its bounds (ground 3), format and drop.
 use crate::bytes::{i32_at, put, slot_mut, slot_of, u16_at, u32_at, u64_at};
-use crate::header::Header;
-use crate::{load_ok, Ground, BUCKETS_MAX, LIFTS_MAX, NOR_BYTES, PAGE_BYTES, SLOT_BYTES};
+use crate::{load_ok, Ground, BUCKETS_MAX, LIFTS_MAX, NOR_BYTES, PAGE_BYTES, SLOT_BYTES, TIME_MAX};
 
-pub const STATE_BYTES: usize = 775;
+pub const STATE_BYTES: usize = 783;
+pub const POINTER_BYTES: usize = 14;
+const HEADS_AT: usize = 19;
+const LOADS_AT: usize = 75;
+const PAGE_AT: usize = 127;
+const BLOOM_AT: usize = 639;
+const START_AT: usize = 767;
+const LOW_AT: usize = 775;
+const HIGH_AT: usize = 779;
 const SERIAL_MAX: u32 = 999_999_999;
-const NEXT_MAX: u64 = 1_000_000_000_000_000;
 
 /// A skip pointer.
 #[derive(Clone, Copy)]
 pub struct Pointer {
     pub slot: u16,
+    pub serial: u32,
     pub time: u64,
 }
 
 impl Pointer {
-    pub const NONE: Pointer = Pointer { slot: 65_535, time: 0 };
+    pub const NONE: Pointer = Pointer { slot: 65_535, serial: 0, time: 0 };
 
-    pub fn is_live(self, oldest_live: u64) -> bool {
-        self.slot != Self::NONE.slot && self.time >= oldest_live
+    pub fn is_live(self, oldest: u32) -> bool {
+        self.slot != Self::NONE.slot && self.serial >= oldest
     }
 
     pub fn fits(self, slots: u64) -> bool {
@@ -26,12 +33,13 @@ impl Pointer {
     }
 
     pub fn read(area: &[u8], at: usize) -> Pointer {
-        Pointer { slot: u16_at(area, at), time: u64_at(area, at + 2) }
+        Pointer { slot: u16_at(area, at), serial: u32_at(area, at + 2), time: u64_at(area, at + 6) }
     }
 
     pub fn write(self, area: &mut [u8], at: usize) {
         put(area, at, self.slot.to_le_bytes());
-        put(area, at + 2, self.time.to_le_bytes());
+        put(area, at + 2, self.serial.to_le_bytes());
+        put(area, at + 6, self.time.to_le_bytes());
     }
 }
 
@@ -42,7 +50,6 @@ pub struct State {
     pub count: u16,
     pub buckets: u8,
     pub next: u64,
-    pub live: u64,
     pub heads: [Pointer; 4],
     pub loads: [i32; 13],
     pub page: [u8; PAGE_BYTES],
@@ -59,7 +66,6 @@ impl State {
         count: 0,
         buckets: 0,
         next: 0,
-        live: 0,
         heads: [Pointer::NONE; 4],
         loads: [0; 13],
         page: [255; PAGE_BYTES],
@@ -76,14 +82,13 @@ impl State {
             count: u16_at(area, 8),
             buckets: area[10],
             next: u64_at(area, 11),
-            live: u64_at(area, 19),
-            heads: core::array::from_fn(|i| Pointer::read(area, 27 + 10 * i)),
-            loads: core::array::from_fn(|i| i32_at(area, 67 + 4 * i)),
-            page: area[119..631].try_into().unwrap(),
-            bloom: area[631..759].try_into().unwrap(),
-            start: u64_at(area, 759),
-            low: i32_at(area, 767),
-            high: i32_at(area, 771),
+            heads: core::array::from_fn(|i| Pointer::read(area, HEADS_AT + POINTER_BYTES * i)),
+            loads: core::array::from_fn(|i| i32_at(area, LOADS_AT + 4 * i)),
+            page: area[PAGE_AT..BLOOM_AT].try_into().unwrap(),
+            bloom: area[BLOOM_AT..START_AT].try_into().unwrap(),
+            start: u64_at(area, START_AT),
+            low: i32_at(area, LOW_AT),
+            high: i32_at(area, HIGH_AT),
         }
     }
 
@@ -94,18 +99,17 @@ impl State {
         put(&mut area, 8, self.count.to_le_bytes());
         area[10] = self.buckets;
         put(&mut area, 11, self.next.to_le_bytes());
-        put(&mut area, 19, self.live.to_le_bytes());
         for (i, head) in self.heads.iter().enumerate() {
-            head.write(&mut area, 27 + 10 * i);
+            head.write(&mut area, HEADS_AT + POINTER_BYTES * i);
         }
         for (i, load) in self.loads.iter().enumerate() {
-            put(&mut area, 67 + 4 * i, load.to_le_bytes());
+            put(&mut area, LOADS_AT + 4 * i, load.to_le_bytes());
         }
-        put(&mut area, 119, self.page);
-        put(&mut area, 631, self.bloom);
-        put(&mut area, 759, self.start.to_le_bytes());
-        put(&mut area, 767, self.low.to_le_bytes());
-        put(&mut area, 771, self.high.to_le_bytes());
+        put(&mut area, PAGE_AT, self.page);
+        put(&mut area, BLOOM_AT, self.bloom);
+        put(&mut area, START_AT, self.start.to_le_bytes());
+        put(&mut area, LOW_AT, self.low.to_le_bytes());
+        put(&mut area, HIGH_AT, self.high.to_le_bytes());
         area
     }
 
@@ -116,15 +120,15 @@ impl State {
             return false;
         }
         let closed = u64::from(self.open - self.oldest);
-        let times = [self.next, self.live, self.start];
         (closed < slots || (empty && closed == slots))
             && self.count <= LIFTS_MAX
             && self.buckets <= BUCKETS_MAX
             && (self.buckets == 0) == empty
             && (empty || self.open != SERIAL_MAX)
-            && times.iter().all(|&t| t <= NEXT_MAX)
-            && (self.next == 0) == (self.open == 1 && empty)
-            && (empty || (self.start < self.next && self.low <= self.high))
+            && self.next <= TIME_MAX
+            && self.start <= TIME_MAX + 1
+            && (self.next == 0 || self.open != 1 || !empty)
+            && (empty || (self.start <= self.next && self.low <= self.high))
             && self.loads.iter().all(|&load| load_ok(load))
             && load_ok(self.low)
             && load_ok(self.high)
@@ -154,27 +158,14 @@ impl State {
         if self.oldest == self.open {
             return Err(Ground::NothingThere);
         }
-        let live = self.live_without_oldest(nand, slots)?;
-        self.forget_oldest(nand, slots, live);
+        self.forget_oldest(nand, slots);
         Ok(())
     }
 
-    /// The oldest live time once the oldest closed segment is gone.
-    pub(crate) fn live_without_oldest(&self, nand: &[u8], slots: u64) -> Result<u64, Ground> {
-        let serial = self.oldest + 1;
-        if serial < self.open {
-            Ok(Header::load(nand, slot_of(serial, slots), slots, self.open)?.start)
-        } else if self.count > 0 {
-            Ok(self.start)
-        } else {
-            Ok(self.next)
-        }
-    }
-
-    pub(crate) fn forget_oldest(&mut self, nand: &mut [u8], slots: u64, live: u64) {
+    /// Reads no header.
+    pub(crate) fn forget_oldest(&mut self, nand: &mut [u8], slots: u64) {
         slot_mut(nand, slot_of(self.oldest, slots)).fill(255);
         self.oldest += 1;
-        self.live = live;
     }
 }
 

@@ -44,10 +44,11 @@ fn fill_open_segment(trial: &mut Trial, habits: &mut Habits, count: u64) -> Step
 }
 
 fn append_while(trial: &mut Trial, habits: &mut Habits, wanted: impl Fn(&Trial) -> bool) -> Step {
+    let place = |trial: &Trial| (trial.field(Field::Open), trial.field(Field::Count));
     while wanted(trial) {
-        let next_before = trial.field(Field::Next);
+        let place_before = place(trial);
         habits.append(trial)?;
-        let is_refused = trial.field(Field::Next) == next_before;
+        let is_refused = place(trial) == place_before;
         if is_refused {
             break;
         }

@@ -1,4 +1,4 @@
-//! Damaged stores: bytes of headers, buckets, records, pages and NOR changed between calls.
+//! Damaged stores: bytes of headers, pointers, buckets, records, pages and NOR changed between calls.
 use crate::bases;
 use crate::habits::Habits;
 use crate::judge::Step;
@@ -6,13 +6,16 @@ use crate::mids;
 use crate::random::Random;
 use crate::trial::{Trial, BUCKETS, BUCKET_BYTES, HEADER, NOR_BYTES, SECTIONS, TREE};
 use model::limits::LAST_TIME;
-use script::areas::{PAGE_BYTES, SLOT_BYTES};
+use script::areas::{BLOOM_BUFFER, HEADS, LAST_LOADS, PAGE_BUFFER, PAGE_BYTES, POINTER_BYTES, SLOT_BYTES};
 use script::calls::Call;
 use script::command::{Command, Field, Part};
 
-/// Offsets and widths in the header page, its four pointers apart.
-const HEADER_FIELDS: [(usize, usize); 11] =
-    [(0, 4), (4, 2), (6, 1), (7, 1), (8, 1), (9, 1), (10, 1), (16, 8), (24, 8), (32, 4), (36, 4)];
+/// Offsets and widths in the header page, its form and its four pointers apart.
+const HEADER_FIELDS: [(usize, usize); 10] =
+    [(0, 4), (4, 2), (6, 1), (7, 1), (8, 1), (9, 1), (16, 8), (24, 8), (32, 4), (36, 4)];
+/// The byte that tells the form, and where the pointers begin.
+const FORM: usize = 10;
+const POINTERS: usize = 40;
 const BUCKET_FIELDS: [(usize, usize); 5] = [(0, 4), (4, 4), (8, 4), (12, 1), (13, 1)];
 /// Numbers that some bound or mark of document 01 stands at.
 const MARKS: [u64; 20] =
@@ -78,12 +81,41 @@ fn bucket_field(random: &mut Random) -> (usize, usize) {
     }
 }
 
-fn header_field(random: &mut Random) -> (usize, usize) {
-    let pointer = 40 + 10 * random.index(4);
-    match random.below(3) {
-        0 => random.pick(&[(pointer, 2), (pointer, 1), (pointer + 2, 8)]),
-        _ => random.pick(&HEADER_FIELDS),
+fn damage_header(trial: &mut Trial, header: usize) -> Step {
+    match trial.random.below(6) {
+        0 | 1 => damage_pointer(trial, Part::Nand, header + POINTERS),
+        2 => {
+            let form = trial.random.pick(&[0, 2, 255]);
+            trial.poke(Part::Nand, header + FORM, &[form])
+        }
+        _ => {
+            let (field, width) = trial.random.pick(&HEADER_FIELDS);
+            change_field(trial, Part::Nand, header + field, width)
+        }
     }
+}
+
+/// One of four pointers, of a header or in the heads: its slot, its serial or its time.
+fn damage_pointer(trial: &mut Trial, part: Part, pointers: usize) -> Step {
+    let pointer = pointers + POINTER_BYTES * trial.random.index(4);
+    match trial.random.below(6) {
+        0 => change_field(trial, part, pointer, 2),
+        1 => change_field(trial, part, pointer, 1),
+        2 | 3 => change_field(trial, part, pointer + 6, 8),
+        _ => odd_serial(trial, part, pointer + 2),
+    }
+}
+
+/// A serial about the oldest retained one, where liveness turns, about the open one, or anything: no serial is damage.
+fn odd_serial(trial: &mut Trial, part: Part, offset: usize) -> Step {
+    let (oldest, open) = (trial.field(Field::Oldest) as u32, trial.field(Field::Open) as u32);
+    let any = trial.random.bits() as u32;
+    let near = [oldest.wrapping_sub(1), oldest, oldest.wrapping_add(1), open, open.wrapping_add(1)];
+    let serial = match trial.random.below(2) {
+        0 => trial.random.pick(&near),
+        _ => trial.random.pick(&[0, any, u32::MAX]),
+    };
+    trial.poke(part, offset, &serial.to_le_bytes())
 }
 
 fn damage_once(trial: &mut Trial, slots: u64) -> Step {
@@ -93,10 +125,7 @@ fn damage_once(trial: &mut Trial, slots: u64) -> Step {
     let (field, width) = bucket_field(random);
     let open_bucket = random.index((buckets + 1).min(BUCKETS));
     match random.below(17) {
-        0..=2 => {
-            let (field, width) = header_field(random);
-            change_field(trial, Part::Nand, slot + HEADER + field, width)
-        }
+        0..=2 => damage_header(trial, slot + HEADER),
         3..=5 => change_field(trial, Part::Nor, BUCKET_BYTES * open_bucket + field, width),
         6 | 7 => {
             let bucket = random.pick(&[0, 0, 1, 2, 3, 5, 8, 20]);
@@ -110,7 +139,7 @@ fn damage_once(trial: &mut Trial, slots: u64) -> Step {
         9 => damage_section(trial, slot),
         10 => damage_page_due(trial, slots),
         11 => damage_buffers(trial),
-        12 => damage_head(trial),
+        12 => damage_pointer(trial, Part::State, HEADS),
         13 => change_count(trial, slot + HEADER),
         14 => damage_entry_due(trial),
         15 => narrow_a_range(trial, open_bucket),
@@ -180,16 +209,10 @@ fn damage_page_due(trial: &mut Trial, slots: u64) -> Step {
 fn damage_buffers(trial: &mut Trial) -> Step {
     let random = &mut trial.random;
     let (offset, width) = match random.below(4) {
-        0 | 1 => (119 + 32 * random.index(16) + 8, 4),
-        2 => (631 + random.index(128), 1),
-        _ => (67 + 4 * random.index(13), 1),
+        0 | 1 => (PAGE_BUFFER + 32 * random.index(16) + 8, 4),
+        2 => (BLOOM_BUFFER + random.index(128), 1),
+        _ => (LAST_LOADS + 4 * random.index(13), 1),
     };
-    change_field(trial, Part::State, offset, width)
-}
-
-fn damage_head(trial: &mut Trial) -> Step {
-    let head = 27 + 10 * trial.random.index(4);
-    let (offset, width) = trial.random.pick(&[(head, 2), (head, 1), (head + 2, 8)]);
     change_field(trial, Part::State, offset, width)
 }
 

@@ -19,12 +19,13 @@ pub fn print_numbers(names: &[&str], rows: &[Numbers]) {
     }
 }
 
-/// Closes and drops that appends brought about in the paper log.
+/// What appends brought about in the paper log: closes, drops and times that repeat.
 #[derive(Default)]
 pub struct Turns {
     closes_at_320_lifts: u64,
     closes_for_bucket_36: u64,
     forced_drops: u64,
+    repeated_times: u64,
 }
 
 impl Turns {
@@ -32,12 +33,13 @@ impl Turns {
         self.closes_at_320_lifts += u64::from(said.closed == Some(Closed::At320Lifts));
         self.closes_for_bucket_36 += u64::from(said.closed == Some(Closed::ForBucket36));
         self.forced_drops += u64::from(matches!(call, Call::Append { .. }) && said.gone.is_some());
+        self.repeated_times += u64::from(said.repeats_time);
     }
 
     pub fn print(&self) {
         println!(
-            "closes at 320 lifts {}, closes for bucket 36 {}, forced drops {}",
-            self.closes_at_320_lifts, self.closes_for_bucket_36, self.forced_drops
+            "closes at 320 lifts {}, closes for bucket 36 {}, forced drops {}, lifts at the time of the one before {}",
+            self.closes_at_320_lifts, self.closes_for_bucket_36, self.forced_drops, self.repeated_times
         );
     }
 }
@@ -47,7 +49,7 @@ const NUMBERS_OF_CALLS: [&[usize]; 7] = [
     &[0, 1, 2],
     &[0, 1, 2, 3, 4, 5, 7, 8, 10, 11],
     &[0, 1, 2, 3, 9, 11],
-    &[0, 1, 2, 3, 9, 10],
+    &[0, 1, 2, 3, 9],
     &[0, 1, 2, 3, 4, 5, 6, 10, 12],
     &[0, 1, 2, 3, 4, 6, 10],
     &[0, 5],

@@ -65,8 +65,8 @@ impl Habits {
     }
 
     pub fn append(&mut self, trial: &mut Trial) -> Step {
-        let next_time = trial.field(Field::Next);
-        let time = self.times.after(next_time, &mut trial.random);
+        let last_time = trial.field(Field::Next);
+        let time = self.times.after(last_time, &mut trial.random);
         let load = self.loads.next(&mut trial.random);
         let note = trial.random.note();
         trial.call(Call::Append { slots: self.slots, time, load, note })?;
@@ -150,13 +150,13 @@ impl Habits {
 
     /// A call that grounds 1 and 4 to 9 are against, or that looks like one.
     fn odd_call(&mut self, trial: &mut Trial) -> Call {
-        let next_time = trial.field(Field::Next);
+        let last_time = trial.field(Field::Next);
         let random = &mut trial.random;
         let slots = if random.once_in(4) { odd_slots(self.slots, random) } else { self.slots };
         let time = match random.below(3) {
-            0 => next_time.saturating_sub(1 + random.below(3)),
+            0 => last_time.saturating_sub(1 + random.below(3)),
             1 => random.pick(&[LAST_TIME, LAST_TIME + 1, u64::MAX]),
-            _ => next_time.saturating_add(1),
+            _ => last_time.saturating_add(random.below(2)),
         };
         let load = if random.once_in(3) { odd_load(random) } else { self.known_lift(random).1 };
         let mut window = self.window(random);

@@ -78,7 +78,9 @@ impl Judge {
             Command::Rows | Command::Dump { .. } | Command::Changed => return Ok(()),
             Command::Snap => self.kept_log.clone_from(&self.log),
             Command::Back => self.log.clone_from(&self.kept_log),
-            Command::Areas { .. } | Command::Poke { .. } | Command::SetField { .. } => self.log = None,
+            Command::Use(_) | Command::Areas { .. } | Command::Poke { .. } | Command::SetField { .. } => {
+                self.log = None
+            }
         }
         self.expected.apply(command);
         if let Some(tested) = &mut self.tested {

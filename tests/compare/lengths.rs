@@ -5,7 +5,8 @@ use crate::trial::Trial;
 use script::calls::{Call, Outputs, Window, UNTOUCHED};
 
 const WRONG_LENGTH: u8 = 20;
-const STATE_LENGTHS: [usize; 6] = [0, 1, 774, 776, 783, 1550];
+/// 775 is the length of form 0.
+const STATE_LENGTHS: [usize; 6] = [0, 1, 775, 782, 784, 1566];
 const ANSWER_LENGTHS: [usize; 8] = [0, 1, 7, 9, 160, 167, 169, 336];
 
 /// Tries every call once on the present areas, with one wrong length or two.

@@ -22,7 +22,6 @@ pub fn on_largest_chip(trial: &mut Trial) -> Step {
     // Serials that use the last slots, so that the next ones begin again at slot 0.
     trial.set(Field::Oldest, 4095)?;
     trial.set(Field::Open, 4095)?;
-    trial.set(Field::Next, 1)?;
     let mut habits = Habits::any(slots, &mut trial.random);
     for _ in 0..4 {
         habits.append(trial)?;
@@ -39,7 +38,7 @@ fn list(trial: &mut Trial, slots: u64, calls: u64) -> Step {
     let mut habits = Habits::any(slots, &mut trial.random);
     for _ in 0..calls {
         habits.one_call(trial)?;
-        if trial.field(Field::Next) > LAST_TIME && trial.random.once_in(30) {
+        if trial.field(Field::Next) == LAST_TIME && trial.random.once_in(30) {
             break;
         }
         if slots <= 64 && trial.random.once_in(500) {

@@ -118,25 +118,49 @@ pub enum Times {
     Sparse(u64),
     /// Reaches the last time within some hundred lifts.
     Hasty,
+    /// Two arms: about every other lift at the time of the one before.
+    Twice,
+    /// Runs of one time, past the ends of pages, sections and segments.
+    Runs {
+        left: u64,
+    },
+    /// One time for good, later than 0, so that all starts are equal.
+    Still,
 }
+
+/// How long a run of one time is: about a page, a section, a segment, and more than two.
+const RUNS: [u64; 12] = [2, 3, 15, 16, 17, 63, 64, 65, 319, 320, 321, 700];
 
 impl Times {
     pub fn any(random: &mut Random) -> Times {
-        match random.below(10) {
+        match random.below(16) {
             0..=2 => Times::Dense,
-            3..=8 => Times::Sparse(random.pick(&[3, 1000, 86_400_000, 1_000_000_000])),
-            _ => Times::Hasty,
+            3..=8 => Times::Sparse(random.pick(&[2, 3, 1000, 86_400_000, 1_000_000_000])),
+            9 => Times::Hasty,
+            10..=12 => Times::Twice,
+            13 | 14 => Times::Runs { left: 0 },
+            _ => Times::Still,
         }
     }
 
-    /// A time not below `next_time`, if there is one left.
-    pub fn after(self, next_time: u64, random: &mut Random) -> u64 {
-        let left = LAST_TIME.saturating_sub(next_time);
+    /// A time not below `last_time`, if that is within the limit.
+    pub fn after(&mut self, last_time: u64, random: &mut Random) -> u64 {
+        let left = LAST_TIME.saturating_sub(last_time);
         let step = match self {
-            Times::Dense => 0,
-            Times::Sparse(greatest) => random.below(greatest),
+            Times::Dense => 1,
+            Times::Sparse(end) => random.below(*end),
             Times::Hasty => random.below(left / 20 + 2),
+            Times::Twice => random.pick(&[0, 0, 0, 1, 1, 1000]),
+            Times::Runs { left: 0 } => {
+                *self = Times::Runs { left: random.pick(&RUNS) - 1 };
+                random.pick(&[1, 1, 1000])
+            }
+            Times::Runs { left } => {
+                *left -= 1;
+                0
+            }
+            Times::Still => u64::from(last_time == 0),
         };
-        next_time.saturating_add(step.min(left))
+        last_time.saturating_add(step.min(left))
     }
 }

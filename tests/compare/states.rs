@@ -6,6 +6,7 @@ use crate::judge::Step;
 use crate::random::Random;
 use crate::trial::Trial;
 use model::limits::{GREATEST_LOAD, LAST_SERIAL, LAST_TIME, LEAST_LOAD};
+use script::areas::{HEADS, LAST_LOADS, POINTER_BYTES};
 use script::calls::Call;
 use script::command::{Command, Field, Part};
 
@@ -56,7 +57,7 @@ fn bound_of(trial: &mut Trial, field: Field, slots: u64) -> i128 {
     let [oldest, open, start, next] =
         [Field::Oldest, Field::Open, Field::Start, Field::Next].map(|field| i128::from(trial.field(field)));
     let (low, high) = (trial.field(Field::Low) as i32, trial.field(Field::High) as i32);
-    let (slots, last, edge) = (i128::from(slots), i128::from(LAST_SERIAL), i128::from(LAST_TIME) + 1);
+    let (slots, last, last_time) = (i128::from(slots), i128::from(LAST_SERIAL), i128::from(LAST_TIME));
     let choices: Vec<i128> = match field {
         Field::Oldest => vec![0, 1, open, open + 1, open - slots - 1, open - slots, open - slots + 1, last, last + 1],
         Field::Open => {
@@ -64,9 +65,10 @@ fn bound_of(trial: &mut Trial, field: Field, slots: u64) -> i128 {
         }
         Field::Count => vec![0, 1, 12, 13, 15, 16, 63, 64, 319, 320, 321, 65_535],
         Field::Buckets => vec![0, 1, 2, 35, 36, 37, 255],
-        Field::Next => vec![0, 1, start, start + 1, edge - 1, edge, edge + 1, u64::MAX.into()],
-        Field::Live => vec![0, 1, start, next, edge, edge + 1, u64::MAX.into()],
-        Field::Start => vec![0, next - 1, next, edge, edge + 1, u64::MAX.into()],
+        Field::Next => {
+            vec![0, 1, start - 1, start, start + 1, last_time, last_time + 1, last_time + 2, u64::MAX.into()]
+        }
+        Field::Start => vec![0, next - 1, next, next + 1, last_time + 1, last_time + 2, u64::MAX.into()],
         Field::Low => vec![high.into(), i128::from(high) + 1, load_bound(&mut trial.random)],
         Field::High => vec![low.into(), i128::from(low) - 1, load_bound(&mut trial.random)],
     };
@@ -81,13 +83,13 @@ fn any_head_slot(trial: &mut Trial, slots: u64) -> Step {
     let slots = slots as u16;
     let slot = trial.random.pick(&[0, slots - 1, slots, 65_534, 65_535]);
     let level = trial.random.index(4);
-    trial.poke(Part::State, 27 + 10 * level, &slot.to_le_bytes())
+    trial.poke(Part::State, HEADS + POINTER_BYTES * level, &slot.to_le_bytes())
 }
 
 fn any_last_load(trial: &mut Trial) -> Step {
     let load = load_bound(&mut trial.random) as i32;
     let place = trial.random.index(13);
-    trial.poke(Part::State, 67 + 4 * place, &load.to_le_bytes())
+    trial.poke(Part::State, LAST_LOADS + 4 * place, &load.to_le_bytes())
 }
 
 /// An empty store that has come up to the last serials, then calls until they are used up.
@@ -98,7 +100,6 @@ fn near_last_serial(trial: &mut Trial) -> Step {
     let serial = i128::from(LAST_SERIAL) - trial.random.from_to(0, 6) as i128;
     trial.set(Field::Oldest, serial)?;
     trial.set(Field::Open, serial)?;
-    trial.set(Field::Next, 1)?;
     let mut habits = Habits::any(slots, &mut trial.random);
     for _ in 0..trial.random.below(400) {
         habits.one_call(trial)?;

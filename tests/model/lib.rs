@@ -1,4 +1,5 @@
-//! Document 01 read a second time: the paper log, the program's lines, and an expectation of every byte.
+//! Document 01, with W-201 and W-202, read a second time: the paper log, the program's lines, and an expectation of every
+//! byte.
 pub mod answers;
 pub mod bytes;
 pub mod limits;

@@ -36,6 +36,8 @@ pub struct Said {
     /// A serial that went: its slot, and no other, is erased in this call.
     pub gone: Option<u64>,
     pub closed: Option<Closed>,
+    /// An append at the time of the one before it.
+    pub repeats_time: bool,
     /// The rows of a search, one after another.
     pub rows: Vec<u8>,
     /// Of a search the count of rows, of a tally its counts, of a lookup the plate.
@@ -50,7 +52,8 @@ pub struct PaperLog {
     open: Vec<Lift>,
     open_serial: u64,
     open_tree: LoadTree,
-    next_time: u64,
+    /// The last accepted time; none after the format.
+    last_time: Option<u64>,
 }
 
 impl PaperLog {
@@ -61,12 +64,13 @@ impl PaperLog {
             open: Vec::new(),
             open_serial: 1,
             open_tree: LoadTree::default(),
-            next_time: 0,
+            last_time: None,
         }
     }
 
+    /// "next time becomes the last accepted time" (W-202), "at first 0"
     pub fn next_time(&self) -> u64 {
-        self.next_time
+        self.last_time.unwrap_or(0)
     }
 
     /// Every lift that the log holds, oldest first.
@@ -110,9 +114,9 @@ impl PaperLog {
     fn append(&mut self, lift: Lift) -> Outcome<Said> {
         refuse_if(time_past_limit(lift.time), TIME_LIMIT)?;
         refuse_if(load_past_limit(lift.load), LOAD_LIMIT)?;
-        refuse_if(lift.time < self.next_time, TIME_BELOW_NEXT)?;
+        refuse_if(lift.time < self.next_time(), TIME_BELOW_LAST)?;
         refuse_if(self.open_serial >= u64::from(LAST_SERIAL) - 1, LAST_SERIALS)?;
-        let mut said = Said::default();
+        let mut said = Said { repeats_time: Some(lift.time) == self.last_time, ..Said::default() };
         if self.open.len() == SEGMENT_LIFTS {
             said.closed = Some(Closed::At320Lifts);
         } else if !self.open_tree.take(lift.load) {
@@ -122,7 +126,7 @@ impl PaperLog {
             self.begin_next_serial();
             self.open_tree.take(lift.load);
         }
-        self.next_time = lift.time + 1;
+        self.last_time = Some(lift.time);
         self.open.push(lift);
         if self.open_serial > self.slots && self.oldest_serial() <= self.open_serial - self.slots {
             said.gone = Some(self.open_serial - self.slots);

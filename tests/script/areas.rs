@@ -1,7 +1,15 @@
 //! The areas that a store is lent, and the commands that change them from outside.
 use crate::command::{Command, Field, Fill, Part};
 
-pub const STATE_BYTES: usize = 775;
+pub const STATE_BYTES: usize = 783;
+/// A pointer: slot 2, serial 4, time 8.
+pub const POINTER_BYTES: usize = 14;
+/// Where the four heads, the last loads, the two buffers and the open segment's start stand in the state.
+pub const HEADS: usize = 19;
+pub const LAST_LOADS: usize = 75;
+pub const PAGE_BUFFER: usize = 127;
+pub const BLOOM_BUFFER: usize = 639;
+pub const START: usize = 767;
 pub const PAGE_BYTES: usize = 512;
 pub const SLOT_BYTES: usize = 32 * PAGE_BYTES;
 
@@ -17,7 +25,7 @@ impl Areas {
     pub fn empty() -> Areas {
         let mut state = vec![0; STATE_BYTES];
         for level in 0..4 {
-            let slot = 27 + 10 * level;
+            let slot = HEADS + POINTER_BYTES * level;
             state[slot..slot + 2].fill(255);
         }
         Areas { state, nand: Vec::new(), nor: Vec::new() }
@@ -56,15 +64,33 @@ fn filled(length: usize, fill: Fill) -> Vec<u8> {
     }
 }
 
-/// The present areas and those that `snap` remembered.
+/// So many stores stand side by side; `use` selects one.
+pub const STORES: usize = 8;
+
+/// All stores; the areas of the selected one stand apart.
+struct Stores {
+    areas: Areas,
+    others: Vec<Areas>,
+    selected: usize,
+}
+
+/// The present stores and those that `snap` remembered.
 pub struct World {
     pub areas: Areas,
-    kept: Option<Areas>,
+    others: Vec<Areas>,
+    selected: usize,
+    kept: Option<Stores>,
 }
 
 impl World {
     pub fn empty() -> World {
-        World { areas: Areas::empty(), kept: None }
+        World { areas: Areas::empty(), others: vec![Areas::empty(); STORES], selected: 0, kept: None }
+    }
+
+    fn select(&mut self, store: usize) {
+        std::mem::swap(&mut self.areas, &mut self.others[self.selected]);
+        std::mem::swap(&mut self.areas, &mut self.others[store]);
+        self.selected = store;
     }
 
     /// Carries out a command that changes areas without a call; others are left to the caller.
@@ -80,10 +106,16 @@ impl World {
                 }
             }
             Command::SetField { field, value } => self.areas.set_field(*field, *value),
-            Command::Snap => self.kept = Some(self.areas.clone()),
+            Command::Use(store) => self.select(*store),
+            Command::Snap => {
+                let (areas, others) = (self.areas.clone(), self.others.clone());
+                self.kept = Some(Stores { areas, others, selected: self.selected });
+            }
             Command::Back => {
                 if let Some(kept) = &self.kept {
-                    self.areas.clone_from(kept);
+                    self.areas.clone_from(&kept.areas);
+                    self.others.clone_from(&kept.others);
+                    self.selected = kept.selected;
                 }
             }
             Command::Call(_) | Command::Rows | Command::Dump { .. } | Command::Changed => {}

@@ -1,4 +1,5 @@
 //! One line of a script as a value, and its text.
+use crate::areas::START;
 use crate::calls::{Call, Window};
 use std::fmt;
 
@@ -10,10 +11,28 @@ pub enum Part {
 }
 
 impl Part {
-    pub const ALL: [(&'static str, Part); 3] = [("nand", Part::Nand), ("nor", Part::Nor), ("state", Part::State)];
+    fn name(self) -> &'static str {
+        Shown::Part(self).name()
+    }
+}
+
+/// What `dump` prints bytes of: an area of the store, or the result area of the last search.
+#[derive(Clone, Copy, Debug, PartialEq)]
+pub enum Shown {
+    Part(Part),
+    ResultArea,
+}
+
+impl Shown {
+    pub const ALL: [(&'static str, Shown); 4] = [
+        ("nand", Shown::Part(Part::Nand)),
+        ("nor", Shown::Part(Part::Nor)),
+        ("state1", Shown::Part(Part::State)),
+        ("area", Shown::ResultArea),
+    ];
 
     fn name(self) -> &'static str {
-        Part::ALL.iter().find(|(_, part)| *part == self).unwrap().0
+        Shown::ALL.iter().find(|(_, shown)| *shown == self).unwrap().0
     }
 }
 
@@ -31,20 +50,18 @@ pub enum Field {
     Count,
     Buckets,
     Next,
-    Live,
     Start,
     Low,
     High,
 }
 
 impl Field {
-    pub const ALL: [(&'static str, Field); 9] = [
+    pub const ALL: [(&'static str, Field); 8] = [
         ("oldest", Field::Oldest),
         ("open", Field::Open),
         ("count", Field::Count),
         ("buckets", Field::Buckets),
         ("next", Field::Next),
-        ("live", Field::Live),
         ("start", Field::Start),
         ("low", Field::Low),
         ("high", Field::High),
@@ -62,16 +79,16 @@ impl Field {
             Field::Count => (8, 2),
             Field::Buckets => (10, 1),
             Field::Next => (11, 8),
-            Field::Live => (19, 8),
-            Field::Start => (759, 8),
-            Field::Low => (767, 4),
-            Field::High => (771, 4),
+            Field::Start => (START, 8),
+            Field::Low => (START + 8, 4),
+            Field::High => (START + 12, 4),
         }
     }
 }
 
 #[derive(Clone, Debug, PartialEq)]
 pub enum Command {
+    Use(usize),
     Areas { nand_bytes: usize, nor_bytes: usize, fill: Fill },
     Poke { part: Part, offset: usize, value: u8 },
     SetField { field: Field, value: i128 },
@@ -79,7 +96,7 @@ pub enum Command {
     Back,
     Call(Call),
     Rows,
-    Dump { part: Part, offset: usize, length: usize },
+    Dump { shown: Shown, offset: usize, length: usize },
     Changed,
 }
 
@@ -114,6 +131,7 @@ impl fmt::Display for Call {
 impl fmt::Display for Command {
     fn fmt(&self, out: &mut fmt::Formatter) -> fmt::Result {
         match self {
+            Command::Use(store) => write!(out, "use {store}"),
             Command::Areas { nand_bytes, nor_bytes, fill } => write!(out, "areas {nand_bytes} {nor_bytes} {fill}"),
             Command::Poke { part, offset, value } => write!(out, "{} {offset} {value}", part.name()),
             Command::SetField { field, value } => write!(out, "fields {} {value}", field.name()),
@@ -121,7 +139,7 @@ impl fmt::Display for Command {
             Command::Back => write!(out, "back"),
             Command::Call(call) => write!(out, "{call}"),
             Command::Rows => write!(out, "rows"),
-            Command::Dump { part, offset, length } => write!(out, "dump {} {offset} {length}", part.name()),
+            Command::Dump { shown, offset, length } => write!(out, "dump {} {offset} {length}", shown.name()),
             Command::Changed => write!(out, "changed"),
         }
     }

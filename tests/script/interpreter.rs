@@ -1,7 +1,7 @@
 //! Runs a script over a store and writes the lines that answer it.
 use crate::areas::{World, PAGE_BYTES, SLOT_BYTES};
 use crate::calls::{Call, Outputs, Store, PLATES, ROW_BYTES};
-use crate::command::{hex, Command};
+use crate::command::{hex, Command, Shown};
 use crate::hash::{copy_changed, fnv1a, KeptHash};
 use crate::parse::parse;
 use std::io::{BufRead, Write};
@@ -10,6 +10,7 @@ pub struct Interpreter<S: Store> {
     store: S,
     world: World,
     found: Vec<u8>,
+    result_area: Vec<u8>,
     nand_before: Vec<u8>,
     nor_before: Vec<u8>,
     nand_hash: KeptHash,
@@ -21,6 +22,7 @@ impl<S: Store> Interpreter<S> {
             store,
             world: World::empty(),
             found: Vec::new(),
+            result_area: Vec::new(),
             nand_before: Vec::new(),
             nor_before: Vec::new(),
             nand_hash: KeptHash::default(),
@@ -44,8 +46,11 @@ impl<S: Store> Interpreter<S> {
         match command {
             Command::Call(call) => self.call(call),
             Command::Rows => self.rows(),
-            Command::Dump { part, offset, length } => {
-                let bytes = self.world.areas.part(*part);
+            Command::Dump { shown, offset, length } => {
+                let bytes = match shown {
+                    Shown::Part(part) => self.world.areas.part(*part),
+                    Shown::ResultArea => &self.result_area,
+                };
                 let from = (*offset).min(bytes.len());
                 let to = offset.saturating_add(*length).min(bytes.len());
                 format!("dump {}\n", hex(&bytes[from..to]))
@@ -73,6 +78,7 @@ impl<S: Store> Interpreter<S> {
                 let found = (count as usize).saturating_mul(ROW_BYTES).min(outputs.rows.len());
                 self.found = outputs.rows[..found].to_vec();
                 line += &format!(" {count} {:016x}", fnv1a(&outputs.rows));
+                self.result_area = outputs.rows;
             }
             Call::Tally { .. } if accepted => {
                 (0..PLATES).for_each(|plate| line += &format!(" {}", outputs.value(plate)));

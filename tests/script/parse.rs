@@ -1,6 +1,7 @@
 //! Reads one line of a script.
+use crate::areas::STORES;
 use crate::calls::{Call, Window};
-use crate::command::{Command, Field, Fill, Part};
+use crate::command::{Command, Field, Fill, Part, Shown};
 use std::str::{FromStr, SplitWhitespace};
 
 struct Words<'a>(SplitWhitespace<'a>);
@@ -43,6 +44,15 @@ impl<'a> Words<'a> {
         Ok(Window { t1: self.number()?, t2: self.number()?, k1: self.number()?, k2: self.number()? })
     }
 
+    fn store(&mut self) -> Result<usize, String> {
+        let store = self.number()?;
+        if store < STORES {
+            Ok(store)
+        } else {
+            Err(format!("there is no store {store}"))
+        }
+    }
+
     fn poke(&mut self, part: Part) -> Result<Command, String> {
         Ok(Command::Poke { part, offset: self.number()?, value: self.number()? })
     }
@@ -65,16 +75,17 @@ impl<'a> Words<'a> {
 
     fn command(&mut self) -> Result<Command, String> {
         match self.word()? {
+            "use" => self.store().map(Command::Use),
             "areas" => Ok(Command::Areas { nand_bytes: self.number()?, nor_bytes: self.number()?, fill: self.fill()? }),
             "nand" => self.poke(Part::Nand),
             "nor" => self.poke(Part::Nor),
-            "state" => self.poke(Part::State),
+            "state1" => self.poke(Part::State),
             "fields" => Ok(Command::SetField { field: self.named(&Field::ALL)?, value: self.number()? }),
             "snap" => Ok(Command::Snap),
             "back" => Ok(Command::Back),
             "rows" => Ok(Command::Rows),
             "dump" => {
-                Ok(Command::Dump { part: self.named(&Part::ALL)?, offset: self.number()?, length: self.number()? })
+                Ok(Command::Dump { shown: self.named(&Shown::ALL)?, offset: self.number()?, length: self.number()? })
             }
             "changed" => Ok(Command::Changed),
             name => self.call(name).map(Command::Call),

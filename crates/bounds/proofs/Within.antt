@@ -8,7 +8,7 @@ use lib.Dec.{eqb, leb, ltb}
 use lib.IntN.{ℤ}
 use borrow.Author.Tests.{ltb-true, ltb-false, leb-true, leb-false, eqb-true, eqb-false, ne-eqb, not-false}
 use Rattle.lift.specs.Limits.{timeOk, loadOk}
-use Rattle.bounds.specs.Bounds.{exactly, serialsOk, countsOk, timesOk, spanOk}
+use Rattle.bounds.specs.Bounds.{exactly, serialsOk, countsOk, spanOk}
 use Rattle.bounds.specs.Grounds.{ground, nandBad, norBad, formatGround, liftGround}
 
 pub and-left : (a b : Bool) → (a && b) ≡ true → a ≡ true
@@ -127,22 +127,6 @@ counts-within current count buckets e =
         go : (z : Bool) → eqb current 999999999 ≡ z → (not z || false) ≡ true → current ≡ 999999999 → ⊥
         go true w u = absurd (false≢true u)
         go false w u = eqb-false current 999999999 w
-
-pub record Times (count next start : ℕ) : Type 0 where
-  pub most : next ≤ 1000000000000000
-  pub started : 1 ≤ count → start < next
-
-pub times-within : (current count next live start : ℕ) → timesOk current count next live start ≡ true → Times count next start
-unfolding timesOk
-times-within current count next live start e =
-    let a = and-left (leb next 1000000000000000 && (leb live 1000000000000000 && leb start 1000000000000000)) _ e in
-    let b = and-right (leb next 1000000000000000 && (leb live 1000000000000000 && leb start 1000000000000000)) _ e in
-    record {
-      most = leb-true next 1000000000000000 (and-left (leb next 1000000000000000) _ a);
-      started =
-          λ h. ltb-true start next (or-other (eqb count 0) _ (ne-eqb count 0 (λ z. omega arith))
-          (and-right (exactly (eqb next 0) (eqb current 1 && eqb count 0)) (eqb count 0 || ltb start next) b));
-    }
 
 pub record Span (low high : ℤ) : Type 0 where
   pub low-ok : loadOk low ≡ true

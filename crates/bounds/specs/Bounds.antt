@@ -6,6 +6,8 @@ use lib.Dec.{eqb, leb, ltb}
 use lib.IntN.{ℤ}
 use lib.Signed.{leZ}
 use Rattle.lift.specs.Limits.{loadOk}
+use Rattle.form.specs.declared.Form.{Form}
+use Rattle.form.specs.declared.Form.the-variants.{Old, New}
 
 -- "exactly when"
 abbrev pub exactly : Bool → Bool → Bool
@@ -22,12 +24,16 @@ unfoldable pub countsOk : ℕ → ℕ → ℕ → Bool
 countsOk current count buckets =
     (leb count 320 && leb buckets 36) && (exactly (eqb buckets 0) (eqb count 0) && (not (eqb current 999999999) || eqb count 0))
 
--- "next, oldest live and start time at most 1,000,000,000,000,000; next 0 exactly when open is 1 and count 0;
--- with count above 0, start below next"
-unfoldable pub timesOk : ℕ → ℕ → ℕ → ℕ → ℕ → Bool
-timesOk current count next live start =
+-- form 0: "next, oldest live and start time at most 1,000,000,000,000,000; next 0 exactly when open is 1 and count 0;
+-- with count above 0, start below next". Form 1: "a start may equal it; next is 0 if open is 1 and count 0, and at most
+-- 999,999,999,999,999"
+unfoldable pub timesOk : Form → ℕ → ℕ → ℕ → ℕ → ℕ → Bool
+timesOk Old current count next live start =
     (leb next 1000000000000000 && (leb live 1000000000000000 && leb start 1000000000000000))
     && (exactly (eqb next 0) (eqb current 1 && eqb count 0) && (eqb count 0 || ltb start next))
+timesOk New current count next live start =
+    (leb next 999999999999999 && leb start 1000000000000000)
+    && ((not (eqb current 1 && eqb count 0) || eqb next 0) && (eqb count 0 || leb start next))
 
 -- with count above 0, "low not above high; loads within their limits"
 unfoldable pub spanOk : ℕ → ℤ → ℤ → Bool

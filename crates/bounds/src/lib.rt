@@ -4,6 +4,7 @@ ghost use mathlib.Core.Path.{_≡_};
 ghost use mathlib.Core.Bool.{true};
 ghost use mathlib.Core.List.{map};
 ghost use Rattle.lift.specs.Limits as Limits;
+ghost use Rattle.form.specs.declared.Form.the-variants.{New};
 ghost use Rattle.bounds.specs.Bounds.{serialsOk, countsOk, timesOk, spanOk, loadsOk};
 ghost use Rattle.bounds.specs.Grounds.{formatGround, liftGround, queryGround};
 ghost use Rattle.bounds.specs.Lifts as Lifts;
@@ -25,8 +26,10 @@ const LIFTS_MOST: u16 = 320;
 
 const BUCKETS_MOST: u8 = 36;
 
-// "at most 1,000,000,000,000,000"
-const NEXT_MOST: u64 = 1000000000000000;
+// "at most 999,999,999,999,999", and a start "at most 1,000,000,000,000,000"
+const NEXT_MOST: u64 = 999999999999999;
+
+const START_MOST: u64 = 1000000000000000;
 
 // The range of S comes first: the bytes of so many slots fit.
 pub fn chips_ground(nand: usize, nor: usize, slots: u64) -> u8
@@ -68,15 +71,13 @@ pub fn counts_ok(current: u32, count: u16, buckets: u8) -> bool
         & (exact & (!(current == SERIAL_MOST) | empty))
 }
 
-pub fn times_ok(current: u32, count: u16, next: u64, live: u64, start: u64) -> bool
-    ensures { λ r. ⌜ r ≡ timesOk current count next live start ⌝ }
+pub fn times_ok(current: u32, count: u16, next: u64, start: u64) -> bool
+    ensures { λ r. ⌜ r ≡ timesOk New current count next 0 start ⌝ }
 {
     let empty = count == 0;
     let new = (current == 1) & empty;
-    let never = next == 0;
-    let exact = (never & new) | (!never & !new);
-    ((next <= NEXT_MOST) & ((live <= NEXT_MOST) & (start <= NEXT_MOST)))
-        & (exact & (empty | (start < next)))
+    ((next <= NEXT_MOST) & (start <= START_MOST))
+        & ((!new | (next == 0)) & (empty | (start <= next)))
 }
 
 pub fn span_ok(count: u16, low: i32, high: i32) -> bool

@@ -9,6 +9,8 @@ use lib.ListN.{length, drop}
 use lib.Signed.{leZ}
 use Rattle.lift.specs.Limits.{stored}
 use Rattle.lift.specs.Record.{recordBytes}
+use Rattle.form.specs.declared.Form.{Form}
+use Rattle.form.specs.Forms.{step}
 use Rattle.tree.specs.Rules.{needsBucket36}
 
 -- a lift: time, load, note
@@ -17,8 +19,10 @@ pub record Lift : Type 0 where
   pub load : ℤ
   pub note : List ℕ
 
--- "lists of lifts under serials: the last is open, earlier ones closed". `oldest` is the serial of the first list held.
+-- "lists of lifts under serials: the last is open, earlier ones closed". `oldest` is the serial of the first list held. The form
+-- says how next time moves.
 pub record Log : Type 0 where
+  pub form : Form
   pub slots : ℕ
   pub oldest : ℕ
   pub closed : List (List Lift)
@@ -30,16 +34,16 @@ abbrev pub openSerial : Log → ℕ
 openSerial g = g .oldest + length (g .closed)
 
 -- "It starts with serial 1, open and empty, and next time 0."
-unfoldable pub begun : ℕ → Log
-begun slots = record { slots = slots; oldest = 1; closed = []; current = []; next = 0 }
+unfoldable pub begun : Form → ℕ → Log
+begun f slots = record { form = f; slots = slots; oldest = 1; closed = []; current = []; next = 0 }
 
 -- "the open serial closes, the next opens"
 unfoldable pub closeLog : Log → Log
-closeLog g = record { slots = g .slots; oldest = g .oldest; closed = g .closed ++ (g .current ∷ []); current = []; next = g .next }
+closeLog g = record { form = g .form; slots = g .slots; oldest = g .oldest; closed = g .closed ++ (g .current ∷ []); current = []; next = g .next }
 
 -- "the oldest closed serial goes"
 unfoldable pub dropLog : Log → Log
-dropLog g = record { slots = g .slots; oldest = g .oldest + 1; closed = drop 1 (g .closed); current = g .current; next = g .next }
+dropLog g = record { form = g .form; slots = g .slots; oldest = g .oldest + 1; closed = drop 1 (g .closed); current = g .current; next = g .next }
 
 -- the loads of a list of lifts, as stored
 abbrev pub codes : List Lift → List ℕ
@@ -57,14 +61,15 @@ roomLog g load = cond (isFull (g .current) load) (closeLog g) g
 unfoldable pub shedLog : Log → Log
 shedLog g = cond (leb (g .slots) (length (g .closed))) (dropLog g) g
 
--- "The lift goes last into the open serial"; next time is the last accepted + 1
+-- "The lift goes last into the open serial"; next time is the last accepted + 1 in form 0, the last accepted in form 1
 unfoldable pub putLog : Log → Lift → Log
 putLog g l = record {
+  form = g .form;
   slots = g .slots;
   oldest = g .oldest;
   closed = g .closed;
   current = g .current ++ (l ∷ []);
-  next = l .time + 1;
+  next = l .time + step (g .form);
 }
 
 unfoldable pub appendLog : Log → Lift → Log

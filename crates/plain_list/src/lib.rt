@@ -1,4 +1,4 @@
-// The paper log of document 01 ("Paper log") as a plain list, for test programs: it shares no code with the store. The list stands on
+// The paper log of document 01 ("Paper log"; W-202) as a plain list, for test programs: it shares no code with the store. The list stands on
 // a lent sheet of numbers; the calls' numbers, serials, counts and next time are in `PlainLog`, by value. Loads are stored numbers.
 mod notes;
 mod plain_tree;
@@ -27,9 +27,12 @@ pub struct PlainLog {
     // Of the open serial.
     pub count: u32,
     pub buckets: u32,
+    // The last accepted time, 0 before there is one.
     pub next: u64,
     // Of all serials held.
     pub lifts: u32,
+    // Of serials that went.
+    pub gone: u64,
 }
 
 impl PlainLog {
@@ -43,6 +46,7 @@ impl PlainLog {
             buckets: 0,
             next: 0,
             lifts: 0,
+            gone: 0,
         }
     }
 
@@ -133,8 +137,9 @@ impl PlainLog {
             current: log.current,
             count: sheet::one_more(log.count),
             buckets,
-            next: sheet::later(time),
+            next: time,
             lifts: sheet::one_more(log.lifts),
+            gone: log.gone,
         }
     }
 
@@ -156,13 +161,14 @@ impl PlainLog {
             buckets: 0,
             next: self.next,
             lifts: self.lifts,
+            gone: self.gone,
         }
     }
 
     // An accepted drop: "the oldest closed serial goes."
     pub fn drop(self, sheet: &mut [u64]) -> PlainLog {
-        let gone = rows::end_of_serial(sheet, self.lifts, self.oldest);
-        let left = rows::without_first(sheet, self.lifts, gone);
+        let going = rows::end_of_serial(sheet, self.lifts, self.oldest);
+        let left = rows::without_first(sheet, self.lifts, going);
         PlainLog {
             slots: self.slots,
             oldest: sheet::one_more(self.oldest),
@@ -171,6 +177,7 @@ impl PlainLog {
             buckets: self.buckets,
             next: self.next,
             lifts: left,
+            gone: sheet::plus(self.gone, going as u64),
         }
     }
 
@@ -194,14 +201,6 @@ impl PlainLog {
         rows::of_plate(sheet, self.lifts, q, plate)
     }
 
-    // "The oldest live time is the start of the oldest retained lift, or next time if there is none."
-    pub fn oldest_time(self, sheet: &[u64]) -> u64 {
-        if self.lifts == 0 {
-            return self.next;
-        }
-        rows::time(sheet, 0)
-    }
-
     // A stored load by which the open serial needs bucket 36 soonest.
     pub fn splitting_code(self, sheet: &[u64]) -> u64 {
         plain_tree::splitting_code(sheet, self.buckets)
@@ -214,5 +213,14 @@ impl PlainLog {
 
     pub fn code_at(self, sheet: &[u64], place: u32) -> u64 {
         rows::code(sheet, place)
+    }
+
+    // Its number since the log began, from 0: lifts at one time differ in it. The place after the last has the next lift's.
+    pub fn number_at(self, place: u32) -> u64 {
+        sheet::plus(self.gone, place as u64)
+    }
+
+    pub fn next_number(self) -> u64 {
+        self.number_at(self.lifts)
     }
 }

@@ -34,12 +34,11 @@ pub fn one_more(n: u32) -> u32 {
     n
 }
 
-// The time after this one.
-pub fn later(time: u64) -> u64 {
-    if time < 18446744073709551615 {
-        return time + 1;
+pub fn plus(a: u64, b: u64) -> u64 {
+    if a <= 18446744073709551615 - b {
+        return a + b;
     }
-    time
+    a
 }
 
 // a − b, and 0 where b is more.

@@ -37,11 +37,15 @@ fn everything() -> Query {
     }
 }
 
-// Times between two appends: none, long ones and short ones.
-fn gap(x: u64) -> u64 {
+// Times between two appends: none, as between two arms, long ones and short ones. Of 1,600 lifts the last 400 are at one time, past
+// the ends of pages, sections and segments.
+fn gap(log: PlainLog, x: u64) -> u64 {
+    if log.next_number() / 400 % 4 == 3 {
+        return 0;
+    }
     match x % 8 {
-        0 => 0,
-        1 => x / 8 % 20000,
+        0 | 1 => 0,
+        2 => x / 8 % 20000,
         _ => x / 8 % 800,
     }
 }
@@ -63,11 +67,18 @@ fn some_code(sheet: &[u64], log: PlainLog, kind: u8, list: u64, time: u64, x: u6
     dice::code(kind, list, time, x)
 }
 
-// An append at or after the next time; now and then one that is to be refused.
+fn just_before(time: u64) -> u64 {
+    if time == 0 {
+        return 0;
+    }
+    time - 1
+}
+
+// An append at or after the last time; now and then one that is to be refused.
 fn append(sheet: &[u64], log: PlainLog, kind: u8, list: u64, x: u64) -> Call {
     let y = dice::next(x);
     let z = dice::next(y);
-    let time = sums::plus(log.next, gap(y));
+    let time = sums::plus(log.next, gap(log, y));
     let k = some_code(sheet, log, kind, list, time, z);
     let mut q = everything();
     q.t1 = time;
@@ -80,6 +91,7 @@ fn append(sheet: &[u64], log: PlainLog, kind: u8, list: u64, x: u64) -> Call {
         3 => q.k1 = 150002,
         4 => slots = 5,
         5 => q.k1 = 18446744073709551615,
+        6 => q.t1 = just_before(log.next),
         _ => {}
     }
     Call {

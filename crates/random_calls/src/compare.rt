@@ -28,23 +28,22 @@ fn load_of(code: u64) -> i32 {
     2147483647
 }
 
-// Byte j of a lift's record.
-fn record_byte(time: u64, code: u64, j: usize) -> u8 {
+// Byte j of a lift's record; the note is made from the lift's number.
+fn record_byte(time: u64, code: u64, number: u64, j: usize) -> u8 {
     if j < 8 {
         return ((time >> (8 * j)) % 256) as u8;
     }
     if j < NOTE_AT {
         return ((code >> (8 * (j - 8))) % 256) as u8;
     }
-    plain_list::note_byte(time, j - NOTE_AT)
+    plain_list::note_byte(number, j - NOTE_AT)
 }
 
-// The state's serials, count, buckets, next time and oldest live time are the list's.
-fn agrees(sheet: &[u64], s: State, log: PlainLog) -> bool {
+// The state's serials, count, buckets and next time are the list's.
+fn agrees(s: State, log: PlainLog) -> bool {
     let serials = (s.oldest == log.oldest) & (s.current == log.current);
     let counts = ((s.count as u32) == log.count) & ((s.buckets as u32) == log.buckets);
-    let times = (s.next == log.next) & (s.live == log.oldest_time(sheet));
-    serials & (counts & times)
+    serials & (counts & (s.next == log.next))
 }
 
 // Counts a call, its ground and a difference, and prints the first difference.
@@ -61,28 +60,23 @@ fn judge(sums: &mut [u64], c: Call, expected: u8, number: u8, good: bool) {
 }
 
 // The store's state and the list after a call that changes them.
-fn settled(
-    sheet: &[u64],
-    sums: &mut [u64],
-    c: Call,
-    expected: u8,
-    a: Answer,
-    log: PlainLog,
-) -> Pair {
+fn settled(sums: &mut [u64], c: Call, expected: u8, a: Answer, log: PlainLog) -> Pair {
     let state = a.state;
-    judge(sums, c, expected, a.number, agrees(sheet, state, log));
+    judge(sums, c, expected, a.number, agrees(state, log));
     Pair { state, log }
 }
 
-// Counts an accepted append, and by what it closed or dropped first.
+// Counts an accepted append, by what it closed or dropped first, and whether its time is that of the lift before.
 fn count_append(sums: &mut [u64], before: PlainLog, after: PlainLog) {
     let closed = before.current != after.current;
     let full = before.count == plain_list::LIFTS_PER_SERIAL;
     let forced = before.oldest != after.oldest;
+    let repeated = (before.next == after.next) & (before.next_number() != 0);
     sums::add(sums, sums::APPENDS, 1);
     sums::add(sums, sums::FULL, sums::one_if(closed & full));
     sums::add(sums, sums::TREE_FULL, sums::one_if(closed & !full));
     sums::add(sums, sums::FORCED_DROPS, sums::one_if(forced));
+    sums::add(sums, sums::REPEATED, sums::one_if(repeated));
 }
 
 fn appended(sheet: &mut [u64], sums: &mut [u64], log: PlainLog, c: Call, number: u8) -> PlainLog {
@@ -107,11 +101,11 @@ fn append(
     let state = p.state;
     let q = c.q;
     let n = log.append_ground(c.slots, q.t1, q.k1);
-    let note = plain_list::note_of(q.t1);
+    let note = plain_list::note_of(log.next_number());
     let load = load_of(q.k1);
     let a = state.append(nand, nor, c.slots, q.t1, load, note);
     let after = appended(sheet, sums, log, c, n);
-    settled(sheet, sums, c, n, a, after)
+    settled(sums, c, n, a, after)
 }
 
 fn closed(sums: &mut [u64], log: PlainLog, number: u8) -> PlainLog {
@@ -122,20 +116,13 @@ fn closed(sums: &mut [u64], log: PlainLog, number: u8) -> PlainLog {
     log.close()
 }
 
-fn close(
-    nand: &mut [u8],
-    nor: &mut [u8],
-    sheet: &[u64],
-    sums: &mut [u64],
-    p: Pair,
-    c: Call,
-) -> Pair {
+fn close(nand: &mut [u8], nor: &mut [u8], sums: &mut [u64], p: Pair, c: Call) -> Pair {
     let log = p.log;
     let state = p.state;
     let n = log.close_ground(c.slots);
     let a = state.close(nand, nor, c.slots);
     let after = closed(sums, log, n);
-    settled(sheet, sums, c, n, a, after)
+    settled(sums, c, n, a, after)
 }
 
 fn dropped(sheet: &mut [u64], sums: &mut [u64], log: PlainLog, number: u8) -> PlainLog {
@@ -159,7 +146,7 @@ fn drop(
     let n = log.drop_ground(c.slots);
     let a = state.drop(nand, nor, c.slots);
     let after = dropped(sheet, sums, log, n);
-    settled(sheet, sums, c, n, a, after)
+    settled(sums, c, n, a, after)
 }
 
 // The bytes of the result area, by the call's choice.
@@ -195,14 +182,14 @@ fn search_number(sheet: &[u64], log: PlainLog, c: Call, bytes: usize) -> u8 {
     0
 }
 
-fn row_agrees(area: &[u8], row: u32, time: u64, code: u64) -> bool {
+fn row_agrees(area: &[u8], row: u32, time: u64, code: u64, number: u64) -> bool {
     let at = (row as usize) * ROW_BYTES;
     if area.len() < at + ROW_BYTES {
         return false;
     }
     let mut j: usize = 0;
     while j < ROW_BYTES {
-        if area[at + j] != record_byte(time, code, j) {
+        if area[at + j] != record_byte(time, code, number, j) {
             return false;
         }
         j += 1;
@@ -218,7 +205,8 @@ fn rows_agree(area: &[u8], sheet: &[u64], log: PlainLog, q: Query, found: u32) -
         let place = log.next_found(sheet, q, from);
         let time = log.time_at(sheet, place);
         let code = log.code_at(sheet, place);
-        if !row_agrees(area, row, time, code) {
+        let number = log.number_at(place);
+        if !row_agrees(area, row, time, code, number) {
             return false;
         }
         if place < 4294967295 {
@@ -313,7 +301,7 @@ pub fn call(
     let what = c.what;
     match what {
         calls::APPEND => append(nand, nor, sheet, sums, p, c),
-        calls::CLOSE => close(nand, nor, sheet, sums, p, c),
+        calls::CLOSE => close(nand, nor, sums, p, c),
         calls::DROP => drop(nand, nor, sheet, sums, p, c),
         calls::SEARCH => {
             search(nand, nor, area, sheet, sums, p, c);

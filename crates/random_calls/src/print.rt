@@ -14,7 +14,7 @@ pub fn head() {
     );
     io::write_all(
         STDOUT,
-        b"  tallies  refused   by 320    by 36   forced   differ\n",
+        b"  tallies  refused   by 320    by 36   forced repeated   differ\n",
     );
 }
 

@@ -1,6 +1,6 @@
 // What is counted over lists of calls. A place past the end counts nothing, and a count stops at the largest number.
 
-pub const SUMS: usize = 25;
+pub const SUMS: usize = 26;
 
 pub const CALLS: usize = 0;
 
@@ -23,10 +23,12 @@ pub const FULL: usize = 8;
 pub const TREE_FULL: usize = 9;
 
 pub const FORCED_DROPS: usize = 10;
+// Lifts at the time of the one before.
+pub const REPEATED: usize = 11;
 
-pub const DIFFERENCES: usize = 11;
+pub const DIFFERENCES: usize = 12;
 // The calls that ground n refused are counted at GROUND_ZERO + n, the accepted ones at GROUND_ZERO.
-pub const GROUND_ZERO: usize = 12;
+pub const GROUND_ZERO: usize = 13;
 
 pub const GROUNDS: usize = 12;
 

@@ -11,6 +11,7 @@ use lib.Dec.{eqb, leb, ltb}
 use lib.IntN.{ℤ}
 use lib.ListN.{length, length-append}
 use borrow.Author.Tests.{eqb-true, eqb-false, eq-eqb, ne-eqb, leb-true, leb-false, le-leb, lt-leb, le-ltb}
+use Rattle.form.specs.declared.Form.{Form}
 use Rattle.codec.specs.Area.{part, repeated, allOnes}
 use Rattle.codec.proofs.Areas.{part-append-right, part-repeated, ones-repeated, length-repeated}
 use Rattle.flash.specs.Chip.{slotOf, pageOf, pageErased, erasedPage}
@@ -186,15 +187,15 @@ drops-is r g =
     go zero f = refl
     go (suc n) f = rw (ne-eqb (suc n) 0 (λ z. omega arith), lt-leb (r .log .slots) (length (r .log .closed)) (f (omega arith)))
 
-shed-some : (slots oldest : ℕ) (closed : List (List Lift)) (current : List Lift) (next : ℕ) (gone : List ℕ)
-    → (g : Good (history slots oldest closed current next gone)) → dropsFirst (image (history slots oldest closed current next gone)) slots ≡ true
-    → slots ≤ length closed → Shed (history slots oldest closed current next gone) (dropHistory (history slots oldest closed current next gone))
+shed-some : (v : Form) (slots oldest : ℕ) (closed : List (List Lift)) (current : List Lift) (next : ℕ) (gone : List ℕ)
+    → (g : Good (history v slots oldest closed current next gone)) → dropsFirst (image (history v slots oldest closed current next gone)) slots ≡ true
+    → slots ≤ length closed → Shed (history v slots oldest closed current next gone) (dropHistory (history v slots oldest closed current next gone))
 unfolding dropLog
-shed-some slots oldest [] current next gone g d h = absurd (omega (arith, g .least))
-shed-some slots oldest (ms ∷ rest) current next gone g d h = record {
-  good = good-drop-some slots oldest ms rest current next gone g;
-  world = rw d (drop-world-some slots oldest ms rest current next gone g);
-  undamaged = rw d (no-damage slots oldest ms rest current next gone g);
+shed-some v slots oldest [] current next gone g d h = absurd (omega (arith, g .least))
+shed-some v slots oldest (ms ∷ rest) current next gone g d h = record {
+  good = good-drop-some v slots oldest ms rest current next gone g;
+  world = rw d (drop-world-some v slots oldest ms rest current next gone g);
+  undamaged = rw d (no-damage v slots oldest ms rest current next gone g);
   current = refl;
   slot = omega (arith, g .room);
   serial = omega arith;
@@ -206,7 +207,7 @@ pub shed : (r : History) (g : Good r) → Shed r (shedHistory r)
 shed r g = go (leb (r .log .slots) (length (r .log .closed))) refl
   where
     go : (t : Bool) → leb (r .log .slots) (length (r .log .closed)) ≡ t → Shed r (cond t (dropHistory r) r)
-    go true e = shed-some (r .log .slots) (r .log .oldest) (r .log .closed) (r .log .current) (r .log .next) (r .gone) g (drops-is r g ∙ e) (leb-true _ _ e)
+    go true e = shed-some (r .log .form) (r .log .slots) (r .log .oldest) (r .log .closed) (r .log .current) (r .log .next) (r .gone) g (drops-is r g ∙ e) (leb-true _ _ e)
     go false e =
         let d = drops-is r g ∙ e in
         record {
@@ -280,7 +281,7 @@ open-erased : (r : History) → Good r → length (r .log .closed) < r .log .slo
 unfolding S.openPage
 open-erased r g few p k m =
     ap allOnes (page-of-nand r g (slotOf (openSerial (r .log)) (r .log .slots)) p (slot-below (r .log .slots) (openSerial (r .log)) (omega (arith, g .least))) m
-    ∙ page-open (r .log .slots) (r .log .oldest) (r .log .closed) (r .log .current) (oldestHeads r) p (omega (arith, g .serial)) few
+    ∙ page-open (r .log .form) (r .log .slots) (r .log .oldest) (r .log .closed) (r .log .current) (oldestHeads r) p (omega (arith, g .serial)) few
     ∙ rw (le-ltb p (length (r .log .current) / 16) k)) ∙ ones-repeated 512
 
 -- a page that a close programs is not one of the full lift pages

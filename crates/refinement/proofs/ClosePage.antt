@@ -10,6 +10,7 @@ use lib.Dec.{eqb, leb, ltb}
 use lib.ListN.{length, drop, take, length-append, length-drop}
 use lib.Seq.{take-length}
 use borrow.Author.Tests.{ltb-true, ltb-false, lt-ltb, le-ltb, eqb-true, eqb-false, eq-eqb, ne-eqb}
+use Rattle.form.specs.declared.Form.{Form}
 use Rattle.codec.specs.Area.{part, repeated}
 use Rattle.codec.proofs.Areas.{length-repeated, part-append-left, part-append-right, part-repeated, part-add, part-all}
 use Rattle.flash.specs.Chip.{erasedPage}
@@ -121,9 +122,9 @@ module _ (ls : List Lift) (b : Built ls) where
       ∙ sections-from-segment (norOf ls) (bloomBuffer (codes ls)) (codes ls) section-in-nor (ap (λ (n : ℕ). sectionOf (drop n (codes ls))) e)
 
   -- each page of the slot after the close
-  module _ (n : ℕ) (heads : List Pointer) where
+  module _ (v : Form) (n : ℕ) (heads : List Pointer) where
     abbrev after : ℕ → List ℕ
-    after p = cond (pageDue (length ls) (bucketCount ls) p) (closePage (norOf ls) (closingOf n ls heads) p) (openPage ls p)
+    after p = cond (pageDue (length ls) (bucketCount ls) p) (closePage (norOf ls) (closingOf v n ls heads) p) (openPage ls p)
 
     open-past : (p : ℕ) → length ls / 16 ≤ p → openPage ls p ≡ erasedPage
     unfolding openPage
@@ -139,7 +140,7 @@ module _ (ls : List Lift) (b : Built ls) where
     in-lifts p h = rw (← due-lifts (length ls) (bucketCount ls) p h) (go (eqb (length ls % 16) 0) (eqb p (length ls / 16)) refl refl)
       where
         go : (m q : Bool) → eqb (length ls % 16) 0 ≡ m → eqb p (length ls / 16) ≡ q
-            → cond (not m && q) (closePage (norOf ls) (closingOf n ls heads) p) (openPage ls p) ≡ liftPage ls p
+            → cond (not m && q) (closePage (norOf ls) (closingOf v n ls heads) p) (openPage ls p) ≡ liftPage ls p
         go true q em eq = open-done (eqb-true (length ls % 16) 0 em)
           where
             open-done : length ls % 16 ≡ 0 → openPage ls p ≡ liftPage ls p
@@ -148,7 +149,7 @@ module _ (ls : List Lift) (b : Built ls) where
                 (λ l. open-past p (omega arith) ∙ sym (lifts-past ls (b .lifts) p h (omega arith)))
         go false true em eq =
             let e : p ≡ length ls / 16 = eqb-true p (length ls / 16) eq in
-            image-lifts (norOf ls) (closingOf n ls heads) p h ∙ buffer-page ls (b .lifts) (omega arith) ∙ ap (liftPage ls) (sym e)
+            image-lifts (norOf ls) (closingOf v n ls heads) p h ∙ buffer-page ls (b .lifts) (omega arith) ∙ ap (liftPage ls) (sym e)
         go false false em eq =
             let f = eqb-false p (length ls / 16) eq in
             lt-cases p (length ls / 16) (λ l. open-full p l) (λ e. absurd (f e))
@@ -160,8 +161,8 @@ module _ (ls : List Lift) (b : Built ls) where
     in-tree p h k = rw (← due-tree (length ls) (bucketCount ls) p h k) (go (ltb ((p - 20) * 4) (bucketCount ls)) refl)
       where
         go : (t : Bool) → ltb ((p - 20) * 4) (bucketCount ls) ≡ t
-            → cond t (closePage (norOf ls) (closingOf n ls heads) p) (openPage ls p) ≡ part (treeArea ls) ((p - 20) * 512) 512
-        go true e = image-tree (norOf ls) (closingOf n ls heads) p h k ∙ tree-closed (p - 20) (omega arith)
+            → cond t (closePage (norOf ls) (closingOf v n ls heads) p) (openPage ls p) ≡ part (treeArea ls) ((p - 20) * 512) 512
+        go true e = image-tree (norOf ls) (closingOf v n ls heads) p h k ∙ tree-closed (p - 20) (omega arith)
         go false e =
             open-past p (omega (arith, b .few)) ∙ sym (tree-past (p - 20) (omega arith) (ltb-false ((p - 20) * 4) (bucketCount ls) e))
 
@@ -170,30 +171,30 @@ module _ (ls : List Lift) (b : Built ls) where
     unfolding closingOf
     in-bloom =
         rw (← due-last (length ls) (bucketCount ls) 29 (omega arith) (omega arith))
-        (image-bloom (norOf ls) (closingOf n ls heads) 29 (omega arith) (omega arith) ∙ ap (λ (ss : List (List ℕ)). bloomPage ss 0) sections-closed)
+        (image-bloom (norOf ls) (closingOf v n ls heads) 29 (omega arith) (omega arith) ∙ ap (λ (ss : List (List ℕ)). bloomPage ss 0) sections-closed)
 
     in-second : after 30 ≡ cond (ltb 256 (length ls)) (bloomPage (segmentSections (codes ls)) 1) erasedPage
     unfolding closingOf
     in-second = rw (← due-last (length ls) (bucketCount ls) 30 (omega arith) (omega arith)) (go (ltb 256 (length ls)))
       where
-        go : (t : Bool) → cond t (closePage (norOf ls) (closingOf n ls heads) 30) (openPage ls 30)
+        go : (t : Bool) → cond t (closePage (norOf ls) (closingOf v n ls heads) 30) (openPage ls 30)
             ≡ cond t (bloomPage (segmentSections (codes ls)) 1) erasedPage
         go true =
-            image-bloom (norOf ls) (closingOf n ls heads) 30 (omega arith) (omega arith) ∙ ap (λ (ss : List (List ℕ)). bloomPage ss 1) sections-closed
+            image-bloom (norOf ls) (closingOf v n ls heads) 30 (omega arith) (omega arith) ∙ ap (λ (ss : List (List ℕ)). bloomPage ss 1) sections-closed
         go false = open-past 30 (omega (arith, b .few))
 
-    in-header : after 31 ≡ headerPage (closingOf n ls heads)
+    in-header : after 31 ≡ headerPage (closingOf v n ls heads)
     in-header =
-        rw (← due-last (length ls) (bucketCount ls) 31 (omega arith) (omega arith)) (image-header (norOf ls) (closingOf n ls heads) 31 (omega arith))
+        rw (← due-last (length ls) (bucketCount ls) 31 (omega arith) (omega arith)) (image-header (norOf ls) (closingOf v n ls heads) 31 (omega arith))
 
-    pub page-after-close : (p : ℕ) → p < 32 → after p ≡ closedPage n ls heads p
+    pub page-after-close : (p : ℕ) → p < 32 → after p ≡ closedPage v n ls heads p
     unfolding closedPage
     page-after-close p h =
         lt-cases p 20 (λ l. rw (lt-ltb p 20 l) (in-lifts p l)) (λ e. later p h (omega arith)) (λ l. later p h (omega arith))
       where
-        later : (p : ℕ) → p < 32 → 20 ≤ p → after p ≡ closedPage n ls heads p
+        later : (p : ℕ) → p < 32 → 20 ≤ p → after p ≡ closedPage v n ls heads p
         later p h k =
             lt-cases p 29 (λ l. rw (le-ltb p 20 k, lt-ltb p 29 l) (in-tree p k l))
-            (λ e. subst (λ (q : ℕ). after q ≡ closedPage n ls heads q) (sym e) in-bloom)
-            (λ l. lt-cases p 30 (λ m. absurd (omega arith)) (λ e. subst (λ (q : ℕ). after q ≡ closedPage n ls heads q) (sym e) in-second)
-            (λ m. let e : p ≡ 31 = omega arith in subst (λ (q : ℕ). after q ≡ closedPage n ls heads q) (sym e) in-header))
+            (λ e. subst (λ (q : ℕ). after q ≡ closedPage v n ls heads q) (sym e) in-bloom)
+            (λ l. lt-cases p 30 (λ m. absurd (omega arith)) (λ e. subst (λ (q : ℕ). after q ≡ closedPage v n ls heads q) (sym e) in-second)
+            (λ m. let e : p ≡ 31 = omega arith in subst (λ (q : ℕ). after q ≡ closedPage v n ls heads q) (sym e) in-header))

@@ -1,5 +1,5 @@
--- The demands, over every list of calls after an accepted format, whatever the chips held before. The world after the format is the image of
--- the history that has begun, and each call leads from a good history's image to the next one's. Assumes nothing.
+-- The demands, over every list of calls after an accepted format, in either form, whatever the chips held before. The world after the
+-- format is the image of the history that has begun, and each call leads from a good history's image to the next one's. Assumes nothing.
 use mathlib.Core.Path.{_≡_, refl, sym, ap, ap₂, subst, _∙_}
 use mathlib.Core.Bool.{Bool, true, false, cond, not, _&&_, _||_}
 use mathlib.Core.List.{List, [], _∷_, map}
@@ -10,6 +10,7 @@ use lib.IntN.{ℤ, pos, negsuc}
 use lib.ListN.{length}
 use lib.Signed.{ltZ}
 use borrow.Author.Tests.{le-ltb, eqb-true}
+use Rattle.form.specs.declared.Form.{Form}
 use Rattle.lift.specs.Limits.{timeOk, loadOk}
 use Rattle.plate.specs.Plate.{noCounts, countsOf, total}
 use Rattle.bounds.specs.Grounds.{queryGround}
@@ -104,50 +105,50 @@ slots-kept (c ∷ cs) g = slots-kept cs (Paper.stepped g c) ∙ go (eqb (Paper.n
 
 -- ---- the same for every store that was formatted
 
-module _ (slots : ℕ) (least : 2 ≤ slots) (most : slots ≤ 4096) (nand nor : List ℕ) (nand-size : length nand ≡ slots * 16384) (nor-size : length nor ≡ 6144) where
-  formatted : formatOutcome nand nor slots ≡ record { number = 0; world = image (begunHistory slots) }
-  formatted = format-world slots least most nand nor nand-size nor-size
+module _ (v : Form) (slots : ℕ) (least : 2 ≤ slots) (most : slots ≤ 4096) (nand nor : List ℕ) (nand-size : length nand ≡ slots * 16384) (nor-size : length nor ≡ 6144) where
+  formatted : formatOutcome v nand nor slots ≡ record { number = 0; world = image (begunHistory v slots) }
+  formatted = format-world v slots least most nand nor nand-size nor-size
 
   -- the format is accepted
-  pub format-accepted : formatOutcome nand nor slots .number ≡ 0
+  pub format-accepted : formatOutcome v nand nor slots .number ≡ 0
   format-accepted = ap (λ (o : Outcome). o .number) formatted
 
-  world-begun : formatOutcome nand nor slots .world ≡ image (begunHistory slots)
+  world-begun : formatOutcome v nand nor slots .world ≡ image (begunHistory v slots)
   world-begun = ap (λ (o : Outcome). o .world) formatted
 
-  begun-good : Good (begunHistory slots)
-  begun-good = good-begun slots least most
+  begun-good : Good (begunHistory v slots)
+  begun-good = good-begun v slots least most
 
   module _ (rs : List Request) (typed : AllTyped rs) where
     -- every call of the list answers as the paper log does
-    pub store-is-paper-log : replies (formatOutcome nand nor slots .world) rs ≡ expectedAll (Paper.answers (begun slots) (map callOf rs)) rs
-    store-is-paper-log = ap (λ (w : World). replies w rs) world-begun ∙ replies-are rs (begunHistory slots) begun-good typed
+    pub store-is-paper-log : replies (formatOutcome v nand nor slots .world) rs ≡ expectedAll (Paper.answers (begun v slots) (map callOf rs)) rs
+    store-is-paper-log = ap (λ (w : World). replies w rs) world-begun ∙ replies-are rs (begunHistory v slots) begun-good typed
 
     -- damage and unerased pages are never reported
-    pub never-damage : NeverDamage (replies (formatOutcome nand nor slots .world) rs)
-    never-damage = subst NeverDamage (sym store-is-paper-log) (fair-all rs (begun slots))
+    pub never-damage : NeverDamage (replies (formatOutcome v nand nor slots .world) rs)
+    never-damage = subst NeverDamage (sym store-is-paper-log) (fair-all rs (begun v slots))
 
     -- what each call changes of the chips
-    pub chips-kept : AllKept (formatOutcome nand nor slots .world) (begun slots) rs
-    chips-kept = subst (λ (w : World). AllKept w (begun slots) rs) (sym world-begun) (all-kept rs (begunHistory slots) begun-good typed)
+    pub chips-kept : AllKept (formatOutcome v nand nor slots .world) (begun v slots) rs
+    chips-kept = subst (λ (w : World). AllKept w (begun v slots) rs) (sym world-begun) (all-kept rs (begunHistory v slots) begun-good typed)
 
-    here : Reached (runAfter (formatOutcome nand nor slots .world) rs) (Paper.logAfter (begun slots) (map callOf rs))
+    here : Reached (runAfter (formatOutcome v nand nor slots .world) rs) (Paper.logAfter (begun v slots) (map callOf rs))
     here =
-        subst (λ (w : World). Reached (runAfter w rs) (Paper.logAfter (begun slots) (map callOf rs))) (sym world-begun)
-        (reached rs (begunHistory slots) begun-good typed)
+        subst (λ (w : World). Reached (runAfter w rs) (Paper.logAfter (begun v slots) (map callOf rs))) (sym world-begun)
+        (reached rs (begunHistory v slots) begun-good typed)
 
     abbrev at-end : World
-    at-end = runAfter (formatOutcome nand nor slots .world) rs
+    at-end = runAfter (formatOutcome v nand nor slots .world) rs
 
     abbrev log-end : Log
-    log-end = Paper.logAfter (begun slots) (map callOf rs)
+    log-end = Paper.logAfter (begun v slots) (map callOf rs)
 
-    begun-slots : begun slots .slots ≡ slots
+    begun-slots : begun v slots .slots ≡ slots
     unfolding begun
     begun-slots = refl
 
     same-slots : here .history .log .slots ≡ slots
-    same-slots = ap (λ (l : Log). l .slots) (here .log) ∙ slots-kept (map callOf rs) (begun slots) ∙ begun-slots
+    same-slots = ap (λ (l : Log). l .slots) (here .log) ∙ slots-kept (map callOf rs) (begun v slots) ∙ begun-slots
 
     -- the state's serials are the paper log's
     pub serials-kept : (at-end .state .oldest ≡ log-end .oldest) × (at-end .state .current ≡ openSerial log-end)

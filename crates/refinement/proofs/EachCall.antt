@@ -80,7 +80,7 @@ call-kept h g (close k) ok =
 call-kept h g (drop k) ok =
     kept-by (Paper.numberOf (h .log) (Paper.drop k)) h (dropHistory h)
     (λ e. record {
-      pages = some-kept (h .log .slots) (h .log .oldest) (h .log .closed) (h .log .current) (h .log .next) (h .gone) g (drop-some h g k e .1);
+      pages = some-kept (h .log .form) (h .log .slots) (h .log .oldest) (h .log .closed) (h .log .current) (h .log .next) (h .gone) g (drop-some h g k e .1);
       nor = inl (drop-nor h);
     })
 call-kept h g (search k t1 t2 k1 k2 area) ok =

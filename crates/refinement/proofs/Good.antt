@@ -1,14 +1,16 @@
 -- What holds of every history that calls make: serials, times and loads in their bounds, every segment with a tree. Assumes nothing.
 use mathlib.Core.Path.{_≡_}
-use mathlib.Core.Bool.{true}
+use mathlib.Core.Bool.{true, false}
 use mathlib.Core.Option.{some}
 use mathlib.Core.List.{List, [], _∷_}
 use Prim.Native.Nat.{ℕ, _+_, _≤_, _<_}
 use lib.ListN.{length, getD}
+use Rattle.form.specs.Forms.{step}
+use Rattle.skiplist.specs.Skip as Skip
 use Rattle.lift.specs.Limits.{timeOk, loadOk}
 use Rattle.tree.specs.Rules.{Bucket, treeOf}
 use Rattle.paper_log.specs.Log.{Lift, Log, openSerial, codes}
-use Rattle.refinement.specs.Image.{History}
+use Rattle.refinement.specs.Image.{History, oldestHeads, liveOf}
 
 -- a lift that an append has accepted
 pub record GoodLift (l : Lift) : Type 0 where
@@ -32,21 +34,21 @@ abbrev pub AllBuilt : List (List Lift) → Type 0
 AllBuilt [] = Unit {0}
 AllBuilt (ls ∷ rest) = Built ls × AllBuilt rest
 
--- times rise: next time is n before the lifts and m after them
-pub data Times : ℕ → List Lift → ℕ → Type 0 where
-  none : {n : ℕ} → Times n [] n
-  more : {n m : ℕ} {l : Lift} {ls : List Lift} → n ≤ l .time → Times (l .time + 1) ls m → Times n (l ∷ ls) m
+-- times rise by s or more: next time is n before the lifts and m after them, s above the last one
+pub data Times (s : ℕ) : ℕ → List Lift → ℕ → Type 0 where
+  none : {n : ℕ} → Times s n [] n
+  more : {n m : ℕ} {l : Lift} {ls : List Lift} → n ≤ l .time → Times s (l .time + s) ls m → Times s n (l ∷ ls) m
 
 -- the same over segments, each with a lift
-pub data Segments : ℕ → List (List Lift) → ℕ → Type 0 where
-  none : {n : ℕ} → Segments n [] n
-  more : {n k m : ℕ} {l : Lift} {ls : List Lift} {rest : List (List Lift)} → Times n (l ∷ ls) k → Segments k rest m
-      → Segments n ((l ∷ ls) ∷ rest) m
+pub data Segments (s : ℕ) : ℕ → List (List Lift) → ℕ → Type 0 where
+  none : {n : ℕ} → Segments s n [] n
+  more : {n k m : ℕ} {l : Lift} {ls : List Lift} {rest : List (List Lift)} → Times s n (l ∷ ls) k → Segments s k rest m
+      → Segments s n ((l ∷ ls) ∷ rest) m
 
--- and over the starts of segments that went
-pub data Starts : ℕ → List ℕ → ℕ → Type 0 where
-  none : {n : ℕ} → Starts n [] n
-  more : {n k m t : ℕ} {ts : List ℕ} → n ≤ t → t < k → Starts k ts m → Starts n (t ∷ ts) m
+-- start times within their limit
+abbrev pub Limited : List ℕ → Type 0
+Limited [] = Unit {0}
+Limited (t ∷ ts) = (t ≤ 999999999999999) × Limited ts
 
 pub record Good (h : History) : Type 0 where
   pub least : 2 ≤ h .log .slots
@@ -58,9 +60,12 @@ pub record Good (h : History) : Type 0 where
   pub still : 0 < length (h .log .current) → openSerial (h .log) ≤ 999999998
   pub before : ℕ
   pub begun : ℕ
-  pub went : Starts 0 (h .gone) before
-  pub closed : Segments before (h .log .closed) begun
-  pub current : Times begun (h .log .current) (h .log .next)
-  pub end : h .log .next ≤ 1000000000000000
+  pub fresh : length (h .gone) ≡ 0 → before ≡ 0
+  pub later : 0 < length (h .gone) → step (h .log .form) ≤ before
+  pub limited : Limited (h .gone)
+  pub dead : (k : ℕ) → Skip.isLive (getD (oldestHeads h) k Skip.none) (liveOf (h .log)) ≡ false
+  pub closed : Segments (step (h .log .form)) before (h .log .closed) begun
+  pub current : Times (step (h .log .form)) begun (h .log .current) (h .log .next)
+  pub end : h .log .next ≤ 999999999999999 + step (h .log .form)
   pub segments : AllBuilt (h .log .closed)
   pub segment : Built (h .log .current)

@@ -9,6 +9,7 @@ use lib.Dec.{eqb, leb, ltb}
 use lib.IntN.{ℤ}
 use lib.ListN.{length}
 use borrow.Author.Tests.{eqb-true, eqb-false, eq-eqb, ne-eqb, lt-ltb, le-ltb, ltb-false, leb-false, leb-true}
+use Rattle.form.specs.declared.Form.{Form}
 use Rattle.bounds.specs.Grounds as B
 use Rattle.bounds.specs.Grounds.{nandBad, norBad}
 use Rattle.flash.specs.Chip.{slotOf}
@@ -78,16 +79,16 @@ close-number h g k =
 drop-rest : (h : History) → Good h
     → Paper.ground 9 (eqb (h .log .oldest) (openSerial (h .log))) (Paper.ground 10 (dropDamage (image h) (h .log .slots)) 0)
     ≡ Paper.ground 9 (eqb (length (h .log .closed)) 0) 0
-drop-rest h g = go (h .log .slots) (h .log .oldest) (h .log .closed) (h .log .current) (h .log .next) (h .gone) g
+drop-rest h g = go (h .log .form) (h .log .slots) (h .log .oldest) (h .log .closed) (h .log .current) (h .log .next) (h .gone) g
   where
-    go : (slots oldest : ℕ) (closed : List (List Lift)) (current : List Lift) (next : ℕ) (gone : List ℕ) → Good (history slots oldest closed current next gone)
-        → Paper.ground 9 (eqb oldest (oldest + length closed)) (Paper.ground 10 (dropDamage (image (history slots oldest closed current next gone)) slots) 0)
+    go : (v : Form) (slots oldest : ℕ) (closed : List (List Lift)) (current : List Lift) (next : ℕ) (gone : List ℕ) → Good (history v slots oldest closed current next gone)
+        → Paper.ground 9 (eqb oldest (oldest + length closed)) (Paper.ground 10 (dropDamage (image (history v slots oldest closed current next gone)) slots) 0)
         ≡ Paper.ground 9 (eqb (length closed) 0) 0
-    go slots oldest [] current next gone g = let e : oldest ≡ oldest + 0 = omega arith in rw (eq-eqb oldest (oldest + 0) e)
-    go slots oldest (ms ∷ rest) current next gone g =
+    go v slots oldest [] current next gone g = let e : oldest ≡ oldest + 0 = omega arith in rw (eq-eqb oldest (oldest + 0) e)
+    go v slots oldest (ms ∷ rest) current next gone g =
         rw (
           ne-eqb oldest (oldest + suc (length rest)) (λ z. omega arith),
-          no-damage slots oldest ms rest current next gone g,
+          no-damage v slots oldest ms rest current next gone g,
           ne-eqb (suc (length rest)) 0 (λ z. omega arith),
         )
 

@@ -8,24 +8,28 @@ use lib.Dec.{eqb, leb, ltb}
 use lib.IntN.{ℤ, pos, negsuc}
 use lib.ListN.{length, drop, replicate, length-append}
 use lib.Signed.{leZ, ltZ}
-use borrow.Author.Tests.{le-leb, lt-ltb, eq-eqb, ne-eqb, leb-true, ltb-true}
+use borrow.Author.Tests.{le-leb, lt-ltb, eq-eqb, ne-eqb, leb-true, ltb-true, eqb-true, eqb-false}
+use Rattle.form.specs.Forms.{step}
+use Rattle.form.specs.declared.Form.the-variants.{Old, New}
+use Rattle.form.specs.declared.Form.{Form}
 use Rattle.bounds.specs.Bounds.{exactly, serialsOk, countsOk, timesOk, spanOk, loadsOk}
 use native.Mathlib.Nat.{le-refl}
 use Rattle.flash.specs.Chip.{slotOf}
 use Rattle.lift.specs.Limits.{loadOk}
 use Rattle.tree.proofs.Built.{buckets-of, counted}
 use Rattle.skiplist.specs.declared.Pointer.{Pointer}
-use Rattle.skiplist.specs.Skip.{pointer, none, isNone, inSlots, levelOf, headsAfter}
+use Rattle.skiplist.specs.Skip.{pointing, none, isNone, inSlots, levelOf, headsAfter}
+use Rattle.store.specs.World.{liveTime}
 use Rattle.store.specs.Bounds.{headsOk, withinBounds}
 use Rattle.paper_log.specs.Log.{Lift, Log, openSerial, codes}
 use Rattle.refinement.specs.Segments as S
-use Rattle.refinement.specs.Image.{History, openHeads, oldestHeads, firstStart, stateImage}
+use Rattle.refinement.specs.Image.{History, openHeads, oldestHeads, firstStart, oldestTime, stateImage}
 use Rattle.flash.proofs.Slots.{slot-below}
 use Rattle.refinement.proofs.Lengths.{good-loads}
 use Rattle.refinement.proofs.ClosePage.{few-buckets}
 use Rattle.refinement.proofs.Close.{no-buckets}
 use Rattle.refinement.proofs.Good as G
-use Rattle.refinement.proofs.Good.{GoodLifts, Built, Times, Segments, Starts, Good}
+use Rattle.refinement.proofs.Good.{GoodLifts, Built, Times, Segments, Good}
 
 pub both : (a b : Bool) → a ≡ true → b ≡ true → (a && b) ≡ true
 both true b p q = q
@@ -38,6 +42,10 @@ and-right false b e = cc
 pub or-right : (a b : Bool) → b ≡ true → (a || b) ≡ true
 or-right true b e = refl
 or-right false b e = e
+
+pub tests-both : (a b : Bool) → (a && b) ≡ true → (a ≡ true) × (b ≡ true)
+tests-both true b e = (refl, e)
+tests-both false b e = (e, cc)
 
 -- two tests that agree
 agree : (a b : Bool) → a ≡ b → exactly a b ≡ true
@@ -82,70 +90,101 @@ counts h g =
 -- ---- times
 
 -- next time after some lifts
-pub times-up : {n m : ℕ} {ls : List Lift} → Times n ls m → n ≤ m
+pub times-up : {d n m : ℕ} {ls : List Lift} → Times d n ls m → n ≤ m
 times-up G.none = le-refl _
 times-up (G.more h t) = omega (arith, times-up t)
 
-pub start-below : (ls : List Lift) {n m : ℕ} → Times n ls m → 0 < length ls → (n ≤ S.startTime ls) × (S.startTime ls < m)
+pub start-below : (ls : List Lift) {d n m : ℕ} → Times d n ls m → 0 < length ls → (n ≤ S.startTime ls) × (S.startTime ls + d ≤ m)
 start-below [] t h = absurd (omega arith)
 start-below (l ∷ ls) (G.more k t) h = (k, omega (arith, times-up t))
 
-pub segments-up : {n m : ℕ} {closed : List (List Lift)} → Segments n closed m → n ≤ m
+pub segments-up : {d n m : ℕ} {closed : List (List Lift)} → Segments d n closed m → n ≤ m
 segments-up G.none = le-refl _
 segments-up (G.more t r) = omega (arith, times-up t, segments-up r)
-
-pub starts-up : {n m : ℕ} {ts : List ℕ} → Starts n ts m → n ≤ m
-starts-up G.none = le-refl _
-starts-up (G.more a b r) = omega (arith, starts-up r)
 
 live-most : (h : History) → Good h → firstStart (h .log .closed) (h .log .current) (h .log .next) ≤ h .log .next
 live-most h g = go (h .log .closed) (h .log .current) (g .closed) (g .current)
   where
-    go : (closed : List (List Lift)) (ls : List Lift) {n m k : ℕ} → Segments n closed m → Times m ls k → firstStart closed ls k ≤ k
+    go : (closed : List (List Lift)) (ls : List Lift) {d n m k : ℕ} → Segments d n closed m → Times d m ls k → firstStart closed ls k ≤ k
     go [] [] s t = le-refl _
     go [] (l ∷ ls) s (G.more a t) = omega (arith, times-up t)
     go (ms ∷ rest) ls (G.more (G.more a u) r) t = omega (arith, times-up u, segments-up r, times-up t)
 
--- next time is 0 exactly where no lift came
-fresh-from : (gone : List ℕ) (closed : List (List Lift)) (ls : List Lift) (oldest : ℕ) {a b m : ℕ} → Starts 0 gone a → Segments a closed b
-    → Times b ls m → oldest ≡ length gone + 1 → eqb m 0 ≡ (eqb (oldest + length closed) 1 && eqb (length ls) 0)
-fresh-from [] [] [] oldest G.none G.none G.none e = let d : oldest + 0 ≡ 1 = omega arith in sym (rw (eq-eqb (oldest + 0) 1 d))
-fresh-from (t ∷ ts) [] [] oldest {m = m} (G.more p q r) G.none G.none e =
-    ne-eqb m 0 (λ z. omega (arith, starts-up r)) ∙ sym (rw (ne-eqb (oldest + 0) 1 (λ z. omega arith)))
-fresh-from gone (ms ∷ rest) [] oldest {m = m} s (G.more (G.more p t) r) G.none e =
-    ne-eqb m 0 (λ z. omega (arith, times-up t, segments-up r))
-    ∙ sym (rw (ne-eqb (oldest + suc (length rest)) 1 (λ z. omega arith)))
-fresh-from gone closed (l ∷ ls) oldest {m = m} s c (G.more p t) e =
-    ne-eqb m 0 (λ z. omega (arith, times-up t)) ∙ sym (no-right (eqb (oldest + length closed) 1) (eqb (suc (length ls)) 0) (ne-eqb (suc (length ls)) 0 (λ z. omega arith)))
-  where
-    no-right : (a b : Bool) → b ≡ false → (a && b) ≡ false
-    no-right true b e = e
-    no-right false b e = refl
+-- no lift has come where the first serial is open and empty, and then next time is 0; else it is a step or more
+abbrev pub isNew : History → Bool
+isNew h = eqb (openSerial (h .log)) 1 && eqb (length (h .log .current)) 0
 
-fresh : (h : History) → Good h → eqb (h .log .next) 0 ≡ (eqb (openSerial (h .log)) 1 && eqb (length (h .log .current)) 0)
-fresh h g = fresh-from (h .gone) (h .log .closed) (h .log .current) (h .log .oldest) (g .went) (g .closed) (g .current) (g .serial)
+fresh-from : (gone : List ℕ) (closed : List (List Lift)) (ls : List Lift) (oldest : ℕ) {d a b m : ℕ} → Segments d a closed b
+    → Times d b ls m → oldest ≡ length gone + 1 → (length gone ≡ 0 → a ≡ 0) → (0 < length gone → d ≤ a)
+    → (t : Bool) → (eqb (oldest + length closed) 1 && eqb (length ls) 0) ≡ t → cond t (m ≡ 0) (d ≤ m)
+fresh-from [] [] [] oldest G.none G.none e f l true t = f refl
+fresh-from (x ∷ gone) [] [] oldest G.none G.none e f l true t =
+    absurd (omega (arith, eqb-true (oldest + 0) 1 (tests-both _ _ t .0)))
+fresh-from gone (ms ∷ rest) [] oldest s u e f l true t =
+    absurd (omega (arith, eqb-true (oldest + suc (length rest)) 1 (tests-both _ _ t .0)))
+fresh-from gone closed (k ∷ ls) oldest s u e f l true t =
+    absurd (omega (arith, eqb-true (suc (length ls)) 0 (tests-both (eqb (oldest + length closed) 1) (eqb (suc (length ls)) 0) t .1)))
+fresh-from [] [] [] oldest G.none G.none e f l false t =
+    let d : oldest + 0 ≡ 1 = omega arith in
+    let z : _≡_ {A = ℕ} 0 1 = cc (rw (eq-eqb (oldest + 0) 1 d) at t) in
+    absurd (omega arith)
+fresh-from (x ∷ gone) [] [] oldest G.none G.none e f l false t = l (omega arith)
+fresh-from gone (ms ∷ rest) [] oldest (G.more (G.more p u) r) G.none e f l false t = omega (arith, times-up u, segments-up r)
+fresh-from gone closed (k ∷ ls) oldest s (G.more p u) e f l false t = omega (arith, times-up u)
+
+pub fresh : (h : History) → Good h → (t : Bool) → isNew h ≡ t → cond t (h .log .next ≡ 0) (step (h .log .form) ≤ h .log .next)
+fresh h g t e = fresh-from (h .gone) (h .log .closed) (h .log .current) (h .log .oldest) (g .closed) (g .current) (g .serial) (g .fresh) (g .later) t e
 
 start-most : (h : History) → Good h → S.startTime (h .log .current) ≤ h .log .next
 start-most h g = go (h .log .current) (g .current)
   where
-    go : (ls : List Lift) {n m : ℕ} → Times n ls m → S.startTime ls ≤ m
+    go : (ls : List Lift) {d n m : ℕ} → Times d n ls m → S.startTime ls ≤ m
     go [] t = omega arith
     go (l ∷ ls) (G.more a t) = omega (arith, times-up t)
 
+-- with lifts, the start is a step below next time
+start-step : (h : History) → Good h → eqb (length (h .log .current)) 0 ≡ false → S.startTime (h .log .current) + step (h .log .form) ≤ h .log .next
+start-step h g e = start-below (h .log .current) (g .current) (omega (arith, eqb-false (length (h .log .current)) 0 e)) .1
+
 times : (h : History) → Good h
-    → timesOk (openSerial (h .log)) (length (h .log .current)) (h .log .next) (firstStart (h .log .closed) (h .log .current) (h .log .next))
+    → timesOk (h .log .form) (openSerial (h .log)) (length (h .log .current)) (h .log .next) (oldestTime (h .log))
     (S.startTime (h .log .current)) ≡ true
 unfolding timesOk
-times h g =
-    let e = g .end in
-    let v : firstStart (h .log .closed) (h .log .current) (h .log .next) ≤ 1000000000000000 = omega (arith, live-most h g) in
-    let s : S.startTime (h .log .current) ≤ 1000000000000000 = omega (arith, start-most h g) in
-    both _ _ (both _ _ (le-leb _ _ e) (both _ _ (le-leb _ _ v) (le-leb _ _ s)))
-    (both _ _ (agree _ _ (fresh h g)) (below (h .log .current) (g .current)))
+times h g = go (h .log .form) refl
   where
-    below : (ls : List Lift) {n m : ℕ} → Times n ls m → (eqb (length ls) 0 || ltb (S.startTime ls) m) ≡ true
-    below [] t = refl
-    below (l ∷ ls) {m = m} t = or-right (eqb (length (l ∷ ls)) 0) (ltb (l .time) m) (lt-ltb (l .time) m (start-below (l ∷ ls) t (omega arith) .1))
+    go : (v : Form) → h .log .form ≡ v
+        → timesOk v (openSerial (h .log)) (length (h .log .current)) (h .log .next)
+        (liveTime v (firstStart (h .log .closed) (h .log .current) (h .log .next))) (S.startTime (h .log .current)) ≡ true
+    go Old e =
+        let d : step (h .log .form) ≡ 1 = ap step e in
+        let n : h .log .next ≤ 1000000000000000 = omega (arith, g .end) in
+        let f : firstStart (h .log .closed) (h .log .current) (h .log .next) ≤ 1000000000000000 = omega (arith, live-most h g) in
+        let s : S.startTime (h .log .current) ≤ 1000000000000000 = omega (arith, start-most h g) in
+        both _ _ (both _ _ (le-leb _ _ n) (both _ _ (le-leb _ _ f) (le-leb _ _ s)))
+        (both _ _ (zero-when (isNew h) refl d) (with-lifts (eqb (length (h .log .current)) 0) refl d))
+      where
+        zero-when : (t : Bool) → isNew h ≡ t → step (h .log .form) ≡ 1 → exactly (eqb (h .log .next) 0) (isNew h) ≡ true
+        zero-when true q d = agree _ _ (eq-eqb (h .log .next) 0 (fresh h g true q) ∙ sym q)
+        zero-when false q d = agree _ _ (ne-eqb (h .log .next) 0 (λ z. omega (arith, fresh h g false q)) ∙ sym q)
+
+        with-lifts : (t : Bool) → eqb (length (h .log .current)) 0 ≡ t → step (h .log .form) ≡ 1
+            → (eqb (length (h .log .current)) 0 || ltb (S.startTime (h .log .current)) (h .log .next)) ≡ true
+        with-lifts true q d = rw q
+        with-lifts false q d = or-right (eqb (length (h .log .current)) 0) (ltb (S.startTime (h .log .current)) (h .log .next)) (lt-ltb (S.startTime (h .log .current)) (h .log .next) (omega (arith, start-step h g q)))
+    go New e =
+        let d : step (h .log .form) ≡ 0 = ap step e in
+        let n : h .log .next ≤ 999999999999999 = omega (arith, g .end) in
+        let s : S.startTime (h .log .current) ≤ 1000000000000000 = omega (arith, start-most h g) in
+        both _ _ (both _ _ (le-leb _ _ n) (le-leb _ _ s)) (both _ _ (zero-if (isNew h) refl) (with-lifts (eqb (length (h .log .current)) 0) refl d))
+      where
+        zero-if : (t : Bool) → isNew h ≡ t → (not (isNew h) || eqb (h .log .next) 0) ≡ true
+        zero-if true q = rw (q, eq-eqb (h .log .next) 0 (fresh h g true q))
+        zero-if false q = rw q
+
+        with-lifts : (t : Bool) → eqb (length (h .log .current)) 0 ≡ t → step (h .log .form) ≡ 0
+            → (eqb (length (h .log .current)) 0 || leb (S.startTime (h .log .current)) (h .log .next)) ≡ true
+        with-lifts true q d = rw q
+        with-lifts false q d = or-right (eqb (length (h .log .current)) 0) (leb (S.startTime (h .log .current)) (h .log .next)) (le-leb (S.startTime (h .log .current)) (h .log .next) (omega (arith, start-step h g q)))
 
 -- ---- loads
 
@@ -259,21 +298,21 @@ ok-later slots zero ps e = e
 ok-later slots (suc n) [] e = refl
 ok-later slots (suc n) (p ∷ ps) e = ok-later slots n ps (and-right (inSlots p slots) (headsOk ps slots) e)
 
-heads-ok : (slots n : ℕ) (ts : List ℕ) (heads : List Pointer) → 1 ≤ slots → headsOk heads slots ≡ true → headsOk (S.headsFrom slots n ts heads) slots ≡ true
+heads-ok : (v : Form) (slots n : ℕ) (ts : List ℕ) (heads : List Pointer) → 1 ≤ slots → headsOk heads slots ≡ true → headsOk (S.headsFrom v slots n ts heads) slots ≡ true
 unfolding S.headsFrom headsAfter
-heads-ok slots n [] heads h e = e
-heads-ok slots n (t ∷ ts) heads h e =
-    heads-ok slots (suc n) ts _ h
-    (ok-replicate slots (levelOf n) (pointer (slotOf n slots) t) (drop (levelOf n) heads)
-    (or-right (isNone (pointer (slotOf n slots) t)) (ltb (slotOf n slots) slots) (lt-ltb (slotOf n slots) slots (slot-below slots n h)))
+heads-ok v slots n [] heads h e = e
+heads-ok v slots n (t ∷ ts) heads h e =
+    heads-ok v slots (suc n) ts _ h
+    (ok-replicate slots (levelOf n) (pointing v (slotOf n slots) n t) (drop (levelOf n) heads)
+    (or-right (isNone (pointing v (slotOf n slots) n t)) (ltb (slotOf n slots) slots) (lt-ltb (slotOf n slots) slots (slot-below slots n h)))
     (ok-later slots (levelOf n) heads e))
 
 -- ---- all of them
 
-pub in-bounds : (h : History) → Good h → withinBounds (stateImage h) (h .log .slots) ≡ true
+pub in-bounds : (h : History) → Good h → withinBounds (h .log .form) (stateImage h) (oldestTime (h .log)) (h .log .slots) ≡ true
 unfolding withinBounds stateImage headsOk
 in-bounds h g =
     let s : 1 ≤ h .log .slots = omega (arith, g .least) in
     both _ _ (serials h g) (both _ _ (counts h g) (both _ _ (times h g) (both _ _ (span (h .log .current) (g .segment .lifts))
     (both _ _ (loads (h .log .current) (g .segment .lifts))
-    (heads-ok (h .log .slots) (h .log .oldest) (map S.startTime (h .log .closed)) (oldestHeads h) s (heads-ok (h .log .slots) 1 (h .gone) S.noHeads s refl))))))
+    (heads-ok (h .log .form) (h .log .slots) (h .log .oldest) (map S.startTime (h .log .closed)) (oldestHeads h) s (heads-ok (h .log .form) (h .log .slots) 1 (h .gone) S.noHeads s refl))))))

@@ -1,5 +1,5 @@
 -- Level 1 from a segment on gives the rows of all wanted lifts up to it, older ones first: each pointer leads to the segment
--- before, and where a start ≤ t1 has been done all older lifts are earlier. By induction on the steps. Assumes nothing.
+-- before, and where the last one to be done has been done all older lifts are earlier than t1. By induction on the steps. Assumes nothing.
 use mathlib.Core.Path.{_≡_, refl, sym, ap, _∙_}
 use mathlib.Core.Bool.{Bool, true, false, cond, not, _||_}
 use mathlib.Core.Option.{Option, none, some}
@@ -8,7 +8,10 @@ use Prim.Native.Nat.{ℕ, zero, suc, _+_, _-_, _*_, _≤_, _<_}
 use native.Mathlib.Omega.{arith}
 use lib.IntN.{ℤ}
 use lib.ListN.{length, length-append}
-use borrow.Author.Tests.{leb-true, lt-ltb, le-ltb}
+use borrow.Author.Tests.{leb-true, ltb-true, lt-ltb, le-ltb}
+use Rattle.form.specs.declared.Form.{Form}
+use Rattle.form.specs.declared.Form.the-variants.{Old, New}
+use Rattle.form.specs.Forms as Forms
 use Rattle.flash.specs.Chip.{slotOf, pageOf, pagesOf}
 use Rattle.lift.specs.Limits.{loadOk}
 use Rattle.bloom.specs.Pages.{sectionCount, segmentSections, bloomPage}
@@ -21,6 +24,7 @@ use Rattle.walk.specs.declared.Cursor.{Cursor}
 use Rattle.walk.specs.declared.Query.{Query}
 use Rattle.walk.specs.declared.Step.{Step}
 use Rattle.walk.specs.declared.Step.the-variants.{End, Damage, Pass, Visit}
+use Rattle.walk.specs.Seek.{isLast}
 use Rattle.walk.specs.Visit.{isPassed, cursorAfter, closedOf, advanceOf, closedRows}
 use Rattle.search.specs.Found.{joinRows, rowsFrom}
 use Rattle.store.specs.Queries.{queryOf}
@@ -40,6 +44,11 @@ use Rattle.refinement.proofs.OneSegment.{closed-rows}
 use Rattle.refinement.proofs.PassedOver.{passed-none}
 use Rattle.refinement.proofs.Pointers.{pointerTo, Leads, dead, to, leads-node, live-retained}
 
+-- where a search may stop, all that is earlier is before its window
+pub last-before : (v : Form) (start t1 : ℕ) → isLast v start t1 ≡ true → start < t1 + Forms.step v
+last-before Old start t1 e = omega (arith, leb-true start t1 e)
+last-before New start t1 e = omega (arith, ltb-true start t1 e)
+
 -- ---- a retained closed segment, as a search reads it
 
 module _ (h : History) (g : Good h) (before : List (List Lift)) (ls : List Lift) (after : List (List Lift))
@@ -51,10 +60,10 @@ module _ (h : History) (g : Good h) (before : List (List Lift)) (ls : List Lift)
   slot = slotOf serial (h .log .slots)
 
   abbrev heads : List Pointer
-  heads = headsAt (h .log .slots) (h .log .oldest) before (oldestHeads h)
+  heads = headsAt (h .log .form) (h .log .slots) (h .log .oldest) before (oldestHeads h)
 
   abbrev header : Header
-  header = headerOf (S.closingOf serial ls heads) true
+  header = headerOf (S.closingOf (h .log .form) serial ls heads) true
 
   there : slot < h .log .slots
   there = slot-below (h .log .slots) serial (omega (arith, g .least))
@@ -155,7 +164,7 @@ module _ (h : History) (g : Good h) (t1 t2 : ℕ) (k1 k2 : ℤ) (ok1 : loadOk k1
 
     goes : (c : Cursor) → c .last ≡ false → c .next ≡ pointerTo h before ls → h .log .oldest + length before < c .before
         → advanced c
-        ≡ cond (isPassed (nandImage h) at head q) (Pass (cursorAfter head q)) (Visit (closedOf at head) (cursorAfter head q))
+        ≡ cond (isPassed (nandImage h) at head q) (Pass (cursorAfter (h .log .form) head q)) (Visit (closedOf at head) (cursorAfter (h .log .form) head q))
     unfolding advanceOf
     goes c e p l = rw (e, p, live-retained h g before ls after is, retained-header h g before ls after is (c .before) l)
 
@@ -166,13 +175,13 @@ module _ (h : History) (g : Good h) (t1 t2 : ℕ) (k1 k2 : ℤ) (ok1 : loadOk k1
         ∙ among-append t1 t2 k1 k2 (joined before) (ls ++ [])
         ∙ ap (λ (x : List Lift). wantedIn before ++ among t1 t2 k1 k2 x) (append-nil ls)
 
-    onward : (n : ℕ) → Finds n → length before < n → run n (cursorAfter head q) ≡ some (map rowOf (wantedIn before))
+    onward : (n : ℕ) → Finds n → length before < n → run n (cursorAfter (h .log .form) head q) ≡ some (map rowOf (wantedIn before))
     unfolding S.closingOf
     onward n f l =
         let a = facts h g before ls after is in
-        f before (ls ∷ after) is l (cursorAfter head q) refl (leads-node h g before (h .log .oldest + length before) 0)
+        f before (ls ∷ after) is l (cursorAfter (h .log .form) head q) refl (leads-node h g before (h .log .oldest + length before) 0)
         (λ e. early-all t1 t2 k1 k2 (a .earlier)
-        (omega (arith, start-below ls (a .own) (a .some-lift), leb-true (S.startTime ls) t1 e)))
+        (omega (arith, start-below ls (a .own) (a .some-lift), last-before (h .log .form) (S.startTime ls) t1 e)))
 
     taken : (n : ℕ) → Finds n → length before < n → (c : Cursor) → c .last ≡ false → c .next ≡ pointerTo h before ls
         → h .log .oldest + length before < c .before
@@ -180,7 +189,7 @@ module _ (h : History) (g : Good h) (t1 t2 : ℕ) (k1 k2 : ℤ) (ok1 : loadOk k1
     taken n f l c e p s = rw (goes c e p s) (go (isPassed (nandImage h) at head q) refl)
       where
         go : (t : Bool) → isPassed (nandImage h) at head q ≡ t
-            → took n (cond t (Pass (cursorAfter head q)) (Visit (closedOf at head) (cursorAfter head q)))
+            → took n (cond t (Pass (cursorAfter (h .log .form) head q)) (Visit (closedOf at head) (cursorAfter (h .log .form) head q)))
             ≡ some (map rowOf (wantedIn before ++ among t1 t2 k1 k2 ls))
         go true i = rw (onward n f l, passed h g before ls after is t1 t2 k1 k2 ok1 ok2 i, append-nil (wantedIn before))
         go false i =

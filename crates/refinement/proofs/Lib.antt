@@ -6,6 +6,7 @@ pub mod PageFrom
 pub mod Close
 pub mod InBounds
 pub mod Retained
+pub mod Dead
 pub mod Drop
 pub mod OneMore
 pub mod PutState
@@ -18,13 +19,12 @@ pub mod Steps
 pub mod PagesKept
 pub mod NorClears
 pub mod Reached
-pub mod AllCalls
-pub mod Wanted
 pub mod Records
 pub mod OneSegment
+pub mod PassedOver
 pub mod ReadBack
 pub mod EachCall
-pub mod PassedOver
+pub mod Wanted
 pub mod Pointers
 pub mod LevelOne
 pub mod SkipWalk
@@ -32,4 +32,5 @@ pub mod SearchFound
 pub mod SearchStep
 pub mod TallyFound
 pub mod TallyHeld
+pub mod AllCalls
 pub mod Demands

@@ -9,22 +9,23 @@ use lib.ListN.{length}
 use borrow.Author.Tests.{eqb-true, eqb-false, eq-eqb, ne-eqb, le-ltb}
 use Rattle.flash.specs.Chip.{slotOf, erasedPage}
 use Rattle.skiplist.specs.declared.Pointer.{Pointer}
-use Rattle.skiplist.specs.Skip.{pointer, levelOf, headsAfter}
+use Rattle.form.specs.declared.Form.{Form}
+use Rattle.skiplist.specs.Skip.{pointing, levelOf, headsAfter}
 use Rattle.paper_log.specs.Log.{Lift}
 use Rattle.refinement.specs.Segments.{startTime, closedPage, openPage, headsFrom}
 use Rattle.refinement.specs.Image.{pageFrom}
 use Rattle.flash.proofs.Slots.{slots-differ}
 
 -- the heads that the serial behind these has
-abbrev pub headsAt : ℕ → ℕ → List (List Lift) → List Pointer → List Pointer
-headsAt slots n closed heads = headsFrom slots n (map startTime closed) heads
+abbrev pub headsAt : Form → ℕ → ℕ → List (List Lift) → List Pointer → List Pointer
+headsAt f slots n closed heads = headsFrom f slots n (map startTime closed) heads
 
 -- an empty open segment has no page
 pub open-none : (p : ℕ) → openPage [] p ≡ erasedPage
 unfolding openPage
 open-none p = rw (le-ltb p 0 (omega arith))
 
-module _ (slots : ℕ) where
+module _ (f : Form) (slots : ℕ) where
   -- the serial behind some closed ones, fewer than S, has a slot of its own
   passes : (n m : ℕ) → 1 ≤ n → suc m < slots → eqb (slotOf n slots) (slotOf (suc n + m) slots) ≡ false
   passes n m h k = ne-eqb _ _ (slots-differ slots n (suc n + m) h (omega arith) (omega arith))
@@ -33,7 +34,7 @@ module _ (slots : ℕ) where
   ahead n a rest = omega arith
 
   pub page-open : (n : ℕ) (closed : List (List Lift)) (current : List Lift) (heads : List Pointer) (p : ℕ) → 1 ≤ n → length closed < slots
-      → pageFrom slots n closed current heads (slotOf (n + length closed) slots) p ≡ openPage current p
+      → pageFrom f slots n closed current heads (slotOf (n + length closed) slots) p ≡ openPage current p
   unfolding pageFrom
   page-open n [] current heads p h k =
       let e : n + 0 ≡ n = omega arith in
@@ -43,8 +44,8 @@ module _ (slots : ℕ) where
 
   -- the segment that is closed behind others
   pub page-newest : (n : ℕ) (closed : List (List Lift)) (ls : List Lift) (heads : List Pointer) (p : ℕ) → 1 ≤ n → length closed < slots
-      → pageFrom slots n (closed ++ (ls ∷ [])) [] heads (slotOf (n + length closed) slots) p
-      ≡ closedPage (n + length closed) ls (headsAt slots n closed heads) p
+      → pageFrom f slots n (closed ++ (ls ∷ [])) [] heads (slotOf (n + length closed) slots) p
+      ≡ closedPage f (n + length closed) ls (headsAt f slots n closed heads) p
   unfolding pageFrom headsFrom
   page-newest n [] ls heads p h k =
       let e : n + 0 ≡ n = omega arith in
@@ -55,7 +56,7 @@ module _ (slots : ℕ) where
   -- a close changes no other slot
   pub page-elsewhere : (n : ℕ) (closed : List (List Lift)) (ls : List Lift) (heads : List Pointer) (s p : ℕ)
       → (slotOf (n + length closed) slots ≡ s → ⊥)
-      → pageFrom slots n (closed ++ (ls ∷ [])) [] heads s p ≡ pageFrom slots n closed ls heads s p
+      → pageFrom f slots n (closed ++ (ls ∷ [])) [] heads s p ≡ pageFrom f slots n closed ls heads s p
   unfolding pageFrom
   page-elsewhere n [] ls heads s p other =
       let e : n + 0 ≡ n = omega arith in
@@ -65,13 +66,13 @@ module _ (slots : ℕ) where
       none-there true = open-none p
       none-there false = refl
   page-elsewhere n (ms ∷ rest) ls heads s p other =
-      ap (cond (eqb (slotOf n slots) s) (closedPage n ms heads p))
+      ap (cond (eqb (slotOf n slots) s) (closedPage f n ms heads p))
       (page-elsewhere (suc n) rest ls _ s p (λ q. other (ap (λ (m : ℕ). slotOf m slots) (ahead n ms rest) ∙ q)))
 
   -- the heads with one segment more
   pub heads-snoc : (n : ℕ) (closed : List (List Lift)) (ls : List Lift) (heads : List Pointer)
-      → headsAt slots n (closed ++ (ls ∷ [])) heads
-      ≡ headsAfter (headsAt slots n closed heads) (levelOf (n + length closed)) (pointer (slotOf (n + length closed) slots) (startTime ls))
+      → headsAt f slots n (closed ++ (ls ∷ [])) heads
+      ≡ headsAfter (headsAt f slots n closed heads) (levelOf (n + length closed)) (pointing f (slotOf (n + length closed) slots) (n + length closed) (startTime ls))
   unfolding headsFrom
   heads-snoc n [] ls heads = let e : n + 0 ≡ n = omega arith in rw e
   heads-snoc n (ms ∷ rest) ls heads = rw (ahead n ms rest) (heads-snoc (suc n) rest ls _)
@@ -79,15 +80,15 @@ module _ (slots : ℕ) where
   -- the open segment's lifts are in the open serial's slot alone
   pub page-current : (n : ℕ) (closed : List (List Lift)) (a b : List Lift) (heads : List Pointer) (s p : ℕ)
       → (slotOf (n + length closed) slots ≡ s → openPage a p ≡ openPage b p)
-      → pageFrom slots n closed a heads s p ≡ pageFrom slots n closed b heads s p
+      → pageFrom f slots n closed a heads s p ≡ pageFrom f slots n closed b heads s p
   unfolding pageFrom
-  page-current n [] a b heads s p f = go (eqb (slotOf n slots) s) refl
+  page-current n [] a b heads s p same = go (eqb (slotOf n slots) s) refl
     where
       go : (t : Bool) → eqb (slotOf n slots) s ≡ t → cond t (openPage a p) erasedPage ≡ cond t (openPage b p) erasedPage
       go true e =
           let z : n + 0 ≡ n = omega arith in
-          f (ap (λ (m : ℕ). slotOf m slots) z ∙ eqb-true (slotOf n slots) s e)
+          same (ap (λ (m : ℕ). slotOf m slots) z ∙ eqb-true (slotOf n slots) s e)
       go false e = refl
-  page-current n (ms ∷ rest) a b heads s p f =
-      ap (cond (eqb (slotOf n slots) s) (closedPage n ms heads p))
-      (page-current (suc n) rest a b _ s p (λ q. f (ap (λ (m : ℕ). slotOf m slots) (ahead n ms rest) ∙ q)))
+  page-current n (ms ∷ rest) a b heads s p same =
+      ap (cond (eqb (slotOf n slots) s) (closedPage f n ms heads p))
+      (page-current (suc n) rest a b _ s p (λ q. same (ap (λ (m : ℕ). slotOf m slots) (ahead n ms rest) ∙ q)))

@@ -7,6 +7,7 @@ use native.Mathlib.Omega.{arith}
 use lib.Dec.{eqb, ltb}
 use lib.ListN.{length, getD}
 use borrow.Author.Tests.{ltb-true, ltb-false, eqb-true, eqb-false}
+use Rattle.form.specs.declared.Form.{Form}
 use Rattle.codec.specs.Area.{part, repeated}
 use Rattle.codec.proofs.Areas.{length-repeated, length-part}
 use Rattle.flash.specs.Chip.{slotOf, pageOf, erasedPage}
@@ -15,7 +16,7 @@ use Rattle.bloom.proofs.Each.{length-each, getD-each}
 use Rattle.bloom.proofs.Fragments as F
 use Rattle.bloom.proofs.Pages as P
 use Rattle.skiplist.specs.declared.Pointer.{Pointer}
-use Rattle.skiplist.specs.Skip.{pointer, levelOf, headsAfter}
+use Rattle.skiplist.specs.Skip.{pointing, levelOf, headsAfter}
 use Rattle.skiplist.proofs.Nodes.{length-heads}
 use Rattle.segment.specs.Header.{headerPage}
 use Rattle.segment.proofs.HeaderBytes.{level-most, length-header}
@@ -36,10 +37,10 @@ length-erased = length-repeated 512 255
 pub four-after : (heads : List Pointer) (n : ℕ) (p : Pointer) → length heads ≡ 4 → length (headsAfter heads (levelOf n) p) ≡ 4
 four-after heads n p e = length-heads heads e (levelOf n) (level-most n) p
 
-pub four-heads : (slots n : ℕ) (ts : List ℕ) (heads : List Pointer) → length heads ≡ 4 → length (headsFrom slots n ts heads) ≡ 4
+pub four-heads : (v : Form) (slots n : ℕ) (ts : List ℕ) (heads : List Pointer) → length heads ≡ 4 → length (headsFrom v slots n ts heads) ≡ 4
 unfolding headsFrom
-four-heads slots n [] heads e = e
-four-heads slots n (t ∷ ts) heads e = four-heads slots (suc n) ts _ (four-after heads n (pointer (slotOf n slots) t) e)
+four-heads v slots n [] heads e = e
+four-heads v slots n (t ∷ ts) heads e = four-heads v slots (suc n) ts _ (four-after heads n (pointing v (slotOf n slots) n t) e)
 
 -- one of two pages, by a test
 page-by : (t : Bool) (a b : List ℕ) → (t ≡ true → length a ≡ 512) → (t ≡ false → length b ≡ 512) → length (cond t a b) ≡ 512
@@ -60,16 +61,16 @@ module _ (ls : List Lift) (b : Built ls) (some-lift : 0 < length ls) where
   pub length-bloom : (i : ℕ) → length (bloomPage (segmentSections (codes ls)) i) ≡ 512
   length-bloom i = F.length-page (segmentSections (codes ls)) i few-sections
 
-  pub length-closedPage : (n : ℕ) (heads : List Pointer) (p : ℕ) → length heads ≡ 4 → length (closedPage n ls heads p) ≡ 512
+  pub length-closedPage : (v : Form) (n : ℕ) (heads : List Pointer) (p : ℕ) → length heads ≡ 4 → length (closedPage v n ls heads p) ≡ 512
   unfolding closedPage closingOf
-  length-closedPage n heads p four =
+  length-closedPage v n heads p four =
       page-by (ltb p 20) _ _ (λ t. length-liftPage ls (b .lifts) (b .few) p (ltb-true p 20 t)) (λ f20.
       page-by (ltb p 29) _ _
       (λ t. length-part (treeArea ls) ((p - 20) * 512) 512 (omega (arith, ltb-true p 29 t, ltb-false p 20 f20, length-area ls))) (λ f29.
       page-by (eqb p 29) _ _ (λ t. length-bloom 0) (λ f.
       page-by (eqb p 30) _ _
       (λ t. page-by (ltb 256 (length ls)) _ _ (λ t. length-bloom 1) (λ f. length-erased))
-      (λ f. length-header (closingOf n ls heads) four))))
+      (λ f. length-header (closingOf v n ls heads) four))))
 
 pub length-openPage : (ls : List Lift) (p : ℕ) → Built ls → length (openPage ls p) ≡ 512
 unfolding openPage
@@ -82,26 +83,26 @@ abbrev pub AllSome : List (List Lift) → Type 0
 AllSome [] = Unit {0}
 AllSome (ls ∷ rest) = (0 < length ls) × AllSome rest
 
-pub length-pageFrom : (slots n : ℕ) (closed : List (List Lift)) (current : List Lift) (heads : List Pointer) (s p : ℕ) → AllBuilt closed
-    → AllSome closed → Built current → length heads ≡ 4 → length (pageFrom slots n closed current heads s p) ≡ 512
+pub length-pageFrom : (v : Form) (slots n : ℕ) (closed : List (List Lift)) (current : List Lift) (heads : List Pointer) (s p : ℕ) → AllBuilt closed
+    → AllSome closed → Built current → length heads ≡ 4 → length (pageFrom v slots n closed current heads s p) ≡ 512
 unfolding pageFrom
-length-pageFrom slots n [] current heads s p bs ss b four =
+length-pageFrom v slots n [] current heads s p bs ss b four =
     page-by (eqb (slotOf n slots) s) (openPage current p) erasedPage (λ t. length-openPage current p b) (λ f. length-erased)
-length-pageFrom slots n (ls ∷ rest) current heads s p bs ss b four =
-    page-by (eqb (slotOf n slots) s) _ _ (λ t. length-closedPage ls (bs .0) (ss .0) n heads p four)
-    (λ f. length-pageFrom slots (suc n) rest current _ s p (bs .1) (ss .1) b (four-after heads n (pointer (slotOf n slots) (startTime ls)) four))
+length-pageFrom v slots n (ls ∷ rest) current heads s p bs ss b four =
+    page-by (eqb (slotOf n slots) s) _ _ (λ t. length-closedPage ls (bs .0) (ss .0) v n heads p four)
+    (λ f. length-pageFrom v slots (suc n) rest current _ s p (bs .1) (ss .1) b (four-after heads n (pointing v (slotOf n slots) n (startTime ls)) four))
 
-pub all-some : {n m : ℕ} {closed : List (List Lift)} → Segments n closed m → AllSome closed
+pub all-some : {d n m : ℕ} {closed : List (List Lift)} → Segments d n closed m → AllSome closed
 all-some none = tt
 all-some (more t rest) = (omega arith, all-some rest)
 
 module _ (h : History) (g : Good h) where
   pub four-oldest : length (oldestHeads h) ≡ 4
-  four-oldest = four-heads (h .log .slots) 1 (h .gone) noHeads refl
+  four-oldest = four-heads (h .log .form) (h .log .slots) 1 (h .gone) noHeads refl
 
   pub length-pageImage : (s p : ℕ) → length (pageImage h s p) ≡ 512
   length-pageImage s p =
-      length-pageFrom (h .log .slots) (h .log .oldest) (h .log .closed) (h .log .current) (oldestHeads h) s p (g .segments) (all-some (g .closed))
+      length-pageFrom (h .log .form) (h .log .slots) (h .log .oldest) (h .log .closed) (h .log .current) (oldestHeads h) s p (g .segments) (all-some (g .closed))
       (g .segment) four-oldest
 
   wide-pages : (from n : ℕ) → Wide 512 (each (λ k. pageImage h (k / 32) (k % 32)) from n)

@@ -9,6 +9,7 @@ use native.Mathlib.Omega.{arith}
 use lib.Dec.{eqb, leb, ltb}
 use lib.ListN.{length}
 use borrow.Author.Tests.{lt-ltb, le-ltb, leb-true}
+use Rattle.form.specs.declared.Form.{Form}
 use Rattle.codec.specs.Area.{allOnes}
 use Rattle.codec.proofs.Areas.{ones-repeated}
 use Rattle.flash.specs.Chip.{slotOf, pageOf, pageErased, erasedPage}
@@ -62,9 +63,9 @@ by-images h k erases gh gk e f s p a b =
 
 -- ---- close
 
-lift-pages : (n : ℕ) (ls : List Lift) (heads : List Pointer) (p : ℕ) → p < 20 → S.closedPage n ls heads p ≡ S.liftPage ls p
+lift-pages : (v : Form) (n : ℕ) (ls : List Lift) (heads : List Pointer) (p : ℕ) → p < 20 → S.closedPage v n ls heads p ≡ S.liftPage ls p
 unfolding S.closedPage
-lift-pages n ls heads p h = rw (lt-ltb p 20 h)
+lift-pages v n ls heads p h = rw (lt-ltb p 20 h)
 
 pub close-kept : (h : History) → Good h → 0 < length (h .log .current) → (erases : ℕ → Type 0)
     → PagesKept (h .log .slots) (nandImage h) (nandImage (closeHistory h)) erases
@@ -81,15 +82,15 @@ close-kept h g some-lift erases = by-images h (closeHistory h) erases g (good-cl
     first = omega (arith, g .serial)
 
     opened : (p : ℕ) → pageImage h slot p ≡ S.openPage ls p
-    opened p = page-open (h .log .slots) (h .log .oldest) (h .log .closed) ls (oldestHeads h) p first (g .busy some-lift)
+    opened p = page-open (h .log .form) (h .log .slots) (h .log .oldest) (h .log .closed) ls (oldestHeads h) p first (g .busy some-lift)
 
     go : (s p : ℕ) → Dec (s ≡ slot) → Dec (p < length ls / 16)
         → (pageImage (closeHistory h) s p ≡ pageImage h s p) ⊎ ((pageImage h s p ≡ erasedPage) ⊎ erases s)
-    go s p (no f) d = inl (page-elsewhere (h .log .slots) (h .log .oldest) (h .log .closed) ls (oldestHeads h) s p (λ e. f (sym e)))
+    go s p (no f) d = inl (page-elsewhere (h .log .form) (h .log .slots) (h .log .oldest) (h .log .closed) ls (oldestHeads h) s p (λ e. f (sym e)))
     go s p (yes e) (yes l) =
         inl (subst (λ (t : ℕ). pageImage (closeHistory h) t p ≡ pageImage h t p) (sym e)
-        (page-newest (h .log .slots) (h .log .oldest) (h .log .closed) ls (oldestHeads h) p first (g .busy some-lift)
-        ∙ lift-pages (openSerial (h .log)) ls _ p (omega (arith, g .segment .few)) ∙ sym (opened p ∙ full p l)))
+        (page-newest (h .log .form) (h .log .slots) (h .log .oldest) (h .log .closed) ls (oldestHeads h) p first (g .busy some-lift)
+        ∙ lift-pages (h .log .form) (openSerial (h .log)) ls _ p (omega (arith, g .segment .few)) ∙ sym (opened p ∙ full p l)))
       where
         full : (p : ℕ) → p < length ls / 16 → S.openPage ls p ≡ S.liftPage ls p
         full p l = open-full ls p l
@@ -108,37 +109,37 @@ put-kept h l g t erases = by-images h (putHistory h l) erases g (good-put h l g 
     go s p (yes e) (yes q) = inl (sym (same-page h l g t s p (λ e. open-below h l g t p q)))
     go s p (yes e) (no q) =
         inr (inl (subst (λ (k : ℕ). pageImage h k p ≡ erasedPage) e
-        (page-open (h .log .slots) (h .log .oldest) (h .log .closed) (h .log .current) (oldestHeads h) p (omega (arith, g .serial)) (t .slot)
+        (page-open (h .log .form) (h .log .slots) (h .log .oldest) (h .log .closed) (h .log .current) (oldestHeads h) p (omega (arith, g .serial)) (t .slot)
         ∙ open-past (h .log .current) p (omega arith))))
 
 -- ---- drop
 
-pub drop-kept : (slots oldest : ℕ) (ms : List Lift) (rest : List (List Lift)) (current : List Lift) (next : ℕ) (gone : List ℕ)
-    → Good (history slots oldest (ms ∷ rest) current next gone)
-    → PagesKept slots (nandImage (history slots oldest (ms ∷ rest) current next gone)) (nandImage (dropHistory (history slots oldest (ms ∷ rest) current next gone)))
+pub drop-kept : (v : Form) (slots oldest : ℕ) (ms : List Lift) (rest : List (List Lift)) (current : List Lift) (next : ℕ) (gone : List ℕ)
+    → Good (history v slots oldest (ms ∷ rest) current next gone)
+    → PagesKept slots (nandImage (history v slots oldest (ms ∷ rest) current next gone)) (nandImage (dropHistory (history v slots oldest (ms ∷ rest) current next gone)))
     (λ s. s ≡ slotOf oldest slots)
 unfolding dropLog
-drop-kept slots oldest ms rest current next gone g =
-    by-images h (dropHistory h) (λ s. s ≡ slotOf oldest slots) g (good-drop-some slots oldest ms rest current next gone g) refl (λ s p a b. go s p (ℕ-discrete s (slotOf oldest slots)))
+drop-kept v slots oldest ms rest current next gone g =
+    by-images h (dropHistory h) (λ s. s ≡ slotOf oldest slots) g (good-drop-some v slots oldest ms rest current next gone g) refl (λ s p a b. go s p (ℕ-discrete s (slotOf oldest slots)))
   where
     h : History
-    h = history slots oldest (ms ∷ rest) current next gone
+    h = history v slots oldest (ms ∷ rest) current next gone
 
     go : (s p : ℕ) → Dec (s ≡ slotOf oldest slots)
         → (pageImage (dropHistory h) s p ≡ pageImage h s p) ⊎ ((pageImage h s p ≡ erasedPage) ⊎ (s ≡ slotOf oldest slots))
     go s p (yes e) = inr (inr e)
     go s p (no f) =
         let e : oldest + 1 ≡ suc oldest = omega arith in
-        inl (rw (heads-left slots oldest ms rest current next gone g, e) (sym (first-skips slots oldest ms rest current (oldestHeads h) s p (λ q. f (sym q)))))
+        inl (rw (heads-left v slots oldest ms rest current next gone g, e) (sym (first-skips v slots oldest ms rest current (oldestHeads h) s p (λ q. f (sym q)))))
 
-pub some-kept : (slots oldest : ℕ) (closed : List (List Lift)) (current : List Lift) (next : ℕ) (gone : List ℕ)
-    → Good (history slots oldest closed current next gone) → 0 < length closed
-    → PagesKept slots (nandImage (history slots oldest closed current next gone)) (nandImage (dropHistory (history slots oldest closed current next gone)))
-    (λ s. (dropHistory (history slots oldest closed current next gone) .log .oldest ≡ oldest + 1) × (s ≡ slotOf oldest slots))
+pub some-kept : (v : Form) (slots oldest : ℕ) (closed : List (List Lift)) (current : List Lift) (next : ℕ) (gone : List ℕ)
+    → Good (history v slots oldest closed current next gone) → 0 < length closed
+    → PagesKept slots (nandImage (history v slots oldest closed current next gone)) (nandImage (dropHistory (history v slots oldest closed current next gone)))
+    (λ s. (dropHistory (history v slots oldest closed current next gone) .log .oldest ≡ oldest + 1) × (s ≡ slotOf oldest slots))
 unfolding dropLog
-some-kept slots oldest [] current next gone g q = absurd (omega arith)
-some-kept slots oldest (ms ∷ rest) current next gone g q =
-    kept-wider slots _ _ (λ s. s ≡ slotOf oldest slots) _ (λ s e. (refl, e)) (drop-kept slots oldest ms rest current next gone g)
+some-kept v slots oldest [] current next gone g q = absurd (omega arith)
+some-kept v slots oldest (ms ∷ rest) current next gone g q =
+    kept-wider slots _ _ (λ s. s ≡ slotOf oldest slots) _ (λ s e. (refl, e)) (drop-kept v slots oldest ms rest current next gone g)
 
 -- ---- append
 
@@ -159,7 +160,7 @@ shed-kept r g = go (leb (r .log .slots) (length (r .log .closed))) refl
   where
     go : (t : Bool) → leb (r .log .slots) (length (r .log .closed)) ≡ t
         → PagesKept (r .log .slots) (nandImage r) (nandImage (cond t (dropHistory r) r)) (Goes r (cond t (dropHistory r) r))
-    go true e = some-kept (r .log .slots) (r .log .oldest) (r .log .closed) (r .log .current) (r .log .next) (r .gone) g
+    go true e = some-kept (r .log .form) (r .log .slots) (r .log .oldest) (r .log .closed) (r .log .current) (r .log .next) (r .gone) g
         (omega (arith, g .least, leb-true (r .log .slots) (length (r .log .closed)) e))
     go false e = kept-same (r .log .slots) (nandImage r) (nandImage r) (Goes r r) refl
 

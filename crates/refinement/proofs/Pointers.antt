@@ -1,36 +1,39 @@
 -- Where a history's skip pointers lead: each is not live, or is that of a retained closed segment; one of level 1 is that of
 -- the last one before. By induction over the segments in order of closing. Assumes nothing.
 use mathlib.Core.Path.{_≡_, refl, sym, ap, subst, _∙_}
-use mathlib.Core.Bool.{true, false, not}
+use mathlib.Core.Bool.{true, false}
 use mathlib.Core.List.{List, [], _∷_, _++_, map, append-assoc, append-nil}
-use Prim.Native.Nat.{ℕ, zero, suc, _+_, _≤_, _<_}
+use Prim.Native.Nat.{ℕ, suc, _+_, _≤_, _<_}
 use native.Mathlib.Decide.{decLt}
 use native.Mathlib.Nat.{le-refl}
 use native.Mathlib.Omega.{arith}
-use lib.Dec.{eqb}
 use lib.ListN.{length, getD, List·getD-eq-default}
-use borrow.Author.Tests.{lt-leb, le-leb, ne-eqb}
+use borrow.Author.Tests.{le-leb, ne-eqb}
+use Rattle.form.specs.declared.Form.{Form}
+use Rattle.form.specs.declared.Form.the-variants.{Old, New}
+use Rattle.form.specs.Forms.{step}
 use Rattle.flash.specs.Chip.{slotOf}
 use Rattle.skiplist.specs.declared.Pointer.{Pointer}
-use Rattle.skiplist.specs.Skip.{pointer, none, isLive, levelOf, nodeOf, headsAfter}
+use Rattle.skiplist.specs.Skip.{pointing, none, ageOf, isLive, levelOf, nodeOf, headsAfter}
 use Rattle.skiplist.proofs.Nodes.{length-node, node-below, node-above, heads-below, heads-above}
 use Rattle.segment.proofs.HeaderBytes.{level-most}
+use Rattle.store.specs.World.{liveTime, leastBy}
 use Rattle.paper_log.specs.Log.{Lift}
 use Rattle.refinement.specs.Segments as S
 use Rattle.refinement.specs.Image.{History, oldestHeads, firstStart, liveOf}
 use Rattle.refinement.proofs.Good as G
-use Rattle.refinement.proofs.Good.{Times, Segments, Starts, Good}
-use Rattle.refinement.proofs.InBounds.{segments-up, starts-up, start-below}
+use Rattle.refinement.proofs.Good.{Segments, Good}
+use Rattle.refinement.proofs.InBounds.{segments-up, start-below}
 use Rattle.flash.proofs.Slots.{slot-below}
 use Rattle.refinement.proofs.PageLengths.{four-after, four-heads, four-oldest}
 use Rattle.refinement.proofs.PageFrom.{headsAt}
 use Rattle.refinement.proofs.Retained.{among}
-use Rattle.refinement.proofs.Drop.{no-right}
 use Rattle.refinement.proofs.OneMore.{length-snoc}
 
 -- the pointer to the closed segment behind these
 abbrev pub pointerTo : History → List (List Lift) → List Lift → Pointer
-pointerTo h before ls = pointer (slotOf (h .log .oldest + length before) (h .log .slots)) (S.startTime ls)
+pointerTo h before ls =
+    pointing (h .log .form) (slotOf (h .log .oldest + length before) (h .log .slots)) (h .log .oldest + length before) (S.startTime ls)
 
 -- the pointer p of level k + 1, where the closed segments so far are b
 pub data Leads (h : History) (b : List (List Lift)) (k : ℕ) (p : Pointer) : Type 0 where
@@ -38,7 +41,7 @@ pub data Leads (h : History) (b : List (List Lift)) (k : ℕ) (p : Pointer) : Ty
   to : (before : List (List Lift)) (ls : List Lift) (after : List (List Lift)) → b ≡ before ++ (ls ∷ after) → (k ≡ 0 → after ≡ [])
       → p ≡ pointerTo h before ls → Leads h b k p
 
-level-least : (n : ℕ) → 1 ≤ levelOf n
+pub level-least : (n : ℕ) → 1 ≤ levelOf n
 unfolding levelOf
 level-least n = omega arith
 
@@ -70,92 +73,49 @@ module _ (h : History) (b : List (List Lift)) (ls : List Lift) where
 leads-from : (h : History) (b c : List (List Lift)) (heads : List Pointer) → length heads ≡ 4
     → ((k : ℕ) → Leads h b k (getD heads k none))
     → (k : ℕ)
-    → Leads h (b ++ c) k (getD (S.headsFrom (h .log .slots) (h .log .oldest + length b) (map S.startTime c) heads) k none)
+    → Leads h (b ++ c) k (getD (S.headsFrom (h .log .form) (h .log .slots) (h .log .oldest + length b) (map S.startTime c) heads) k none)
 unfolding S.headsFrom
 leads-from h b [] heads four f k = rw (append-nil b) (f k)
 leads-from h b (ls ∷ c) heads four f k =
     let n : ℕ = h .log .oldest + length b in
     let e : suc n ≡ h .log .oldest + length (b ++ (ls ∷ [])) = omega (arith, length-snoc b ls) in
     let after : List Pointer = headsAfter heads (levelOf n) (pointerTo h b ls) in
-    subst (λ (x : List (List Lift)). Leads h x k (getD (S.headsFrom (h .log .slots) (suc n) (map S.startTime c) after) k none))
+    subst (λ (x : List (List Lift)). Leads h x k (getD (S.headsFrom (h .log .form) (h .log .slots) (suc n) (map S.startTime c) after) k none))
     (append-assoc b (ls ∷ []) c)
     (subst (λ (m : ℕ). Leads h ((b ++ (ls ∷ [])) ++ c) k
-    (getD (S.headsFrom (h .log .slots) m (map S.startTime c) after) k none)) (sym e)
+    (getD (S.headsFrom (h .log .form) (h .log .slots) m (map S.startTime c) after) k none)) (sym e)
     (leads-from h (b ++ (ls ∷ [])) c (headsAfter heads (levelOf (h .log .oldest + length b)) (pointerTo h b ls))
     (four-after heads n (pointerTo h b ls) four) (leads-after h b ls n heads four f) k))
 
--- ---- the oldest live time
+-- ---- the start of the oldest retained lift
 
-live-above : (closed : List (List Lift)) (ls : List Lift) {n m k : ℕ} → Segments n closed m → Times m ls k
-    → n ≤ firstStart closed ls k
-live-above [] [] G.none G.none = le-refl _
-live-above [] (l ∷ ls) G.none (G.more a t) = a
-live-above ((l ∷ ls) ∷ rest) current (G.more (G.more a u) r) t = a
-
-live-below : (before : List (List Lift)) (ls : List Lift) (after : List (List Lift)) (current : List Lift) (next : ℕ) {n m : ℕ}
-    → Segments n (before ++ (ls ∷ after)) m → firstStart (before ++ (ls ∷ after)) current next ≤ S.startTime ls
+live-below : (before : List (List Lift)) (ls : List Lift) (after : List (List Lift)) (current : List Lift) (next : ℕ) {d n m : ℕ}
+    → Segments d n (before ++ (ls ∷ after)) m → firstStart (before ++ (ls ∷ after)) current next ≤ S.startTime ls
 live-below [] ls after current next s = le-refl _
 live-below ((l ∷ ms) ∷ before) ls after current next (G.more t r) =
     let a = among before ls after r in
     omega (arith, start-below (l ∷ ms) t (omega arith), segments-up (a .earlier), start-below ls (a .own) (a .some-lift))
 
--- ---- the serials that went
-
-module _ (live : ℕ) where
-  dead-pointer : (slot t : ℕ) → t < live → isLive (pointer slot t) live ≡ false
-  dead-pointer slot t l = rw (lt-leb live t l) (no-right (not (eqb slot 65535)) false refl)
-
-  no-head : (k : ℕ) → isLive (getD S.noHeads k none) live ≡ false
-  no-head zero = refl
-  no-head (suc zero) = refl
-  no-head (suc (suc zero)) = refl
-  no-head (suc (suc (suc zero))) = refl
-  no-head (suc (suc (suc (suc k)))) = refl
-
-  dead-from : (slots n : ℕ) {a m : ℕ} (ts : List ℕ) (heads : List Pointer) → Starts a ts m → m ≤ live → length heads ≡ 4
-      → ((k : ℕ) → isLive (getD heads k none) live ≡ false) → (k : ℕ)
-      → isLive (getD (S.headsFrom slots n ts heads) k none) live ≡ false
-  unfolding S.headsFrom
-  dead-from slots n [] heads s l four f k = f k
-  dead-from slots n (t ∷ ts) heads (G.more p q r) l four f k =
-      let late : t < live = omega (arith, starts-up r) in
-      dead-from slots (suc n) ts _ r l (four-after heads n (pointer (slotOf n slots) t) four) (one late) k
-    where
-      one : t < live → (k : ℕ) → isLive (getD (headsAfter heads (levelOf n) (pointer (slotOf n slots) t)) k none) live ≡ false
-      one late k = go (decLt k (levelOf n))
-        where
-          go : Dec (k < levelOf n) → isLive (getD (headsAfter heads (levelOf n) (pointer (slotOf n slots) t)) k none) live ≡ false
-          go (yes l) =
-              rw (heads-below heads four (levelOf n) (level-most n) (pointer (slotOf n slots) t) k l)
-              (dead-pointer (slotOf n slots) t late)
-          go (no l) = rw (heads-above heads four (levelOf n) (level-most n) (pointer (slotOf n slots) t) k (omega arith)) (f k)
-
 -- ---- the pointers of a history
 
 module _ (h : History) (g : Good h) where
-  oldest-dead : (k : ℕ) → isLive (getD (oldestHeads h) k none) (liveOf (h .log)) ≡ false
-  oldest-dead =
-      dead-from (liveOf (h .log)) (h .log .slots) 1 (h .gone) S.noHeads (g .went)
-      (live-above (h .log .closed) (h .log .current) (g .closed) (g .current))
-      refl (no-head (liveOf (h .log)))
-
   -- the heads where the segments b are closed
   pub leads-heads : (b : List (List Lift)) (k : ℕ)
-      → Leads h b k (getD (headsAt (h .log .slots) (h .log .oldest) b (oldestHeads h)) k none)
+      → Leads h b k (getD (headsAt (h .log .form) (h .log .slots) (h .log .oldest) b (oldestHeads h)) k none)
   leads-heads b k =
       let z : h .log .oldest + 0 ≡ h .log .oldest = omega arith in
-      rw z at (leads-from h [] b (oldestHeads h) (four-oldest h g) (λ k. dead (oldest-dead k) (λ e. refl)) k)
+      rw z at (leads-from h [] b (oldestHeads h) (four-oldest h g) (λ k. dead (g .dead k) (λ e. refl)) k)
 
   -- the node of the segment behind them
   pub leads-node : (b : List (List Lift)) (n k : ℕ)
-      → Leads h b k (getD (nodeOf (headsAt (h .log .slots) (h .log .oldest) b (oldestHeads h)) (levelOf n)) k none)
+      → Leads h b k (getD (nodeOf (headsAt (h .log .form) (h .log .slots) (h .log .oldest) b (oldestHeads h)) (levelOf n)) k none)
   leads-node b n k = go (decLt k (levelOf n)) (decLt k 4)
     where
       heads : List Pointer
-      heads = headsAt (h .log .slots) (h .log .oldest) b (oldestHeads h)
+      heads = headsAt (h .log .form) (h .log .slots) (h .log .oldest) b (oldestHeads h)
 
       four : length heads ≡ 4
-      four = four-heads (h .log .slots) (h .log .oldest) (map S.startTime b) (oldestHeads h) (four-oldest h g)
+      four = four-heads (h .log .form) (h .log .slots) (h .log .oldest) (map S.startTime b) (oldestHeads h) (four-oldest h g)
 
       go : Dec (k < levelOf n) → Dec (k < 4) → Leads h b k (getD (nodeOf heads (levelOf n)) k none)
       go (yes l) m = rw (node-below heads four (levelOf n) (level-most n) k l) (leads-heads b k)
@@ -173,9 +133,15 @@ module _ (h : History) (g : Good h) where
       → isLive (pointerTo h before ls) (liveOf (h .log)) ≡ true
   live-retained before ls after is =
       let s = slot-below (h .log .slots) (h .log .oldest + length before) (omega (arith, g .least)) in
-      rw (
-        ne-eqb (slotOf (h .log .oldest + length before) (h .log .slots)) 65535 (λ e. omega (arith, g .most)),
-        is,
-        le-leb _ _ (live-below before ls after (h .log .current) (h .log .next)
-            (subst (λ (c : List (List Lift)). Segments (g .before) c (g .begun)) is (g .closed))),
-      )
+      rw (ne-eqb (slotOf (h .log .oldest + length before) (h .log .slots)) 65535 (λ e. omega (arith, g .most)), is)
+      (le-leb _ _ (old-enough (h .log .form)))
+    where
+      closed : List (List Lift)
+      closed = before ++ (ls ∷ after)
+
+      old-enough : (v : Form) → leastBy v (liveTime v (firstStart closed (h .log .current) (h .log .next))) (h .log .oldest)
+          ≤ ageOf v (pointing v (slotOf (h .log .oldest + length before) (h .log .slots)) (h .log .oldest + length before) (S.startTime ls))
+      old-enough Old =
+          live-below before ls after (h .log .current) (h .log .next)
+          (subst (λ (c : List (List Lift)). Segments (step (h .log .form)) (g .before) c (g .begun)) is (g .closed))
+      old-enough New = omega arith

@@ -6,11 +6,15 @@ use mathlib.Core.Option.{some}
 use mathlib.Core.List.{List, [], _∷_, _++_, map, append-assoc}
 use Prim.Native.Nat.{ℕ, zero, suc, _+_, _-_, _*_, _/_, _%_, _≤_, _<_}
 use native.Mathlib.Decide.{ℕ-discrete}
+use native.Mathlib.Nat.{le-refl}
 use native.Mathlib.Omega.{arith}
 use lib.Dec.{eqb, leb, ltb}
 use lib.IntN.{ℤ}
-use lib.ListN.{length, length-append, length-map}
+use lib.ListN.{length, getD, length-append, length-map}
 use borrow.Author.Tests.{eqb-true, eqb-false, eq-eqb, ne-eqb, lt-ltb, le-ltb}
+use Rattle.form.specs.declared.Form.{Form}
+use Rattle.form.specs.declared.Form.the-variants.{Old, New}
+use Rattle.form.specs.Forms.{step}
 use Rattle.codec.specs.Area.{part, splice, repeated}
 use Rattle.codec.proofs.Areas.{length-repeated}
 use Rattle.flash.specs.Chip.{slotOf, pageOf, programmed, erasedPage}
@@ -25,16 +29,18 @@ use Rattle.tree.specs.Plan.{Plan}
 use Rattle.tree.specs.Writes.{writesOf, allWritten, bucketsAfter}
 use Rattle.tree.proofs.Places.{splice-right}
 use Rattle.store.specs.declared.State.{State}
-use Rattle.store.specs.World.{World, stateWith, putWorld}
+use Rattle.store.specs.World.{World, liveTime, liveWith, stateWith, putWorld}
+use Rattle.skiplist.specs.Skip.{none}
 use Rattle.paper_log.specs.Log.{Lift, Log, openSerial, codes, rowOf, putLog}
 use Rattle.refinement.specs.Segments as S
-use Rattle.refinement.specs.Image.{History, oldestHeads, pageFrom, pageImage, nandImage, stateImage, image}
+use Rattle.refinement.specs.Image.{History, oldestHeads, firstStart, pageFrom, pageImage, nandImage, stateImage, image}
 use Rattle.refinement.proofs.Good as G
 use Rattle.refinement.proofs.Good.{GoodLift, GoodLifts, Built, Times, Good}
 use Rattle.flash.proofs.Slots.{slot-below}
 use Rattle.refinement.proofs.Lengths.{length-liftPage, length-codes, length-sections, length-bloomBuffer}
 use Rattle.refinement.proofs.PageLengths.{length-nand, page-of-nand, length-area}
 use Rattle.refinement.proofs.OneMore as O
+use Rattle.refinement.proofs.Dead.{dead-later, least-up}
 use Rattle.refinement.proofs.PutState.{last-loads, live-with, start-with, low-with, high-with}
 use Rattle.refinement.proofs.PageFrom.{page-open, page-current}
 use Rattle.refinement.proofs.ClosePage.{lt-cases}
@@ -73,9 +79,20 @@ pub record Takes (h : History) (l : Lift) : Type 0 where
   pub tree : List Bucket
   pub is : treeOf (codes (h .log .current ++ (l ∷ []))) ≡ some tree
 
-times-snoc : (ls : List Lift) {n m : ℕ} → Times n ls m → (l : Lift) → m ≤ l .time → Times n (ls ++ (l ∷ [])) (l .time + 1)
+times-snoc : (ls : List Lift) {d n m : ℕ} → Times d n ls m → (l : Lift) → m ≤ l .time → Times d n (ls ++ (l ∷ [])) (l .time + d)
 times-snoc [] G.none l h = G.more h G.none
 times-snoc (k ∷ ls) (G.more a t) l h = G.more a (times-snoc ls t l h)
+
+live-once : (v : Form) (b : Bool) (t a : ℕ) → liveTime v (cond b t (liveTime v a)) ≡ liveTime v (cond b t a)
+live-once Old b t a = refl
+live-once New b t a = refl
+
+-- a lift does not make the oldest retained one earlier
+first-up : (closed : List (List Lift)) (ls : List Lift) (l : Lift) (next after : ℕ) → next ≤ l .time
+    → firstStart closed ls next ≤ firstStart closed (ls ++ (l ∷ [])) after
+first-up [] [] l next after h = h
+first-up [] (m ∷ ls) l next after h = le-refl _
+first-up (ms ∷ rest) ls l next after h = le-refl _
 
 pub good-put : (h : History) (l : Lift) → Good h → Takes h l → Good (putHistory h l)
 unfolding putLog
@@ -91,7 +108,12 @@ good-put h l g t =
       still = λ q. t .serial;
       before = g .before;
       begun = g .begun;
-      went = g .went;
+      fresh = g .fresh;
+      later = g .later;
+      limited = g .limited;
+      dead = λ k. dead-later (getD (oldestHeads h) k none) (h .log .form) _ _
+          (least-up (h .log .form) (first-up (h .log .closed) (h .log .current) l (h .log .next) (l .time + step (h .log .form)) (t .later)) (le-refl _))
+          (g .dead k);
       closed = g .closed;
       current = times-snoc (h .log .current) (g .current) l (t .later);
       end = omega (arith, t .lift .time);
@@ -142,7 +164,7 @@ module _ (h : History) (l : Lift) (g : Good h) (t : Takes h l) where
 
   pub same-page : (s p : ℕ) → (slot ≡ s → S.openPage ls p ≡ S.openPage more p) → pageImage h s p ≡ pageImage (putHistory h l) s p
   unfolding putLog
-  same-page s p f = page-current slots (h .log .oldest) (h .log .closed) ls more (oldestHeads h) s p f
+  same-page s p f = page-current (h .log .form) slots (h .log .oldest) (h .log .closed) ls more (oldestHeads h) s p f
 
   -- the lift is not the last of its page
   kept : (length ls % 16 ≡ 15 → ⊥) → nandImage h ≡ nandImage (putHistory h l)
@@ -173,7 +195,7 @@ module _ (h : History) (l : Lift) (g : Good h) (t : Takes h l) where
 
       here : pageImage (putHistory h l) slot (length ls / 16) ≡ S.liftPage more (length ls / 16)
       here =
-          page-open slots (h .log .oldest) (h .log .closed) more (oldestHeads h) (length ls / 16) (omega (arith, g .serial)) (t .slot)
+          page-open (h .log .form) slots (h .log .oldest) (h .log .closed) more (oldestHeads h) (length ls / 16) (omega (arith, g .serial)) (t .slot)
           ∙ open-full more (length ls / 16) (omega (arith, n))
 
       go : Dec (s * 32 + p ≡ slot * 32 + length ls / 16) → pageOf (programmed (nandImage h) slot (length ls / 16) page) s p ≡ pageImage (putHistory h l) s p
@@ -280,12 +302,18 @@ module _ (h : History) (l : Lift) (g : Good h) (t : Takes h l) where
 
   module _ (p : Plan) (written : allWritten (S.norOf ls) (writesOf p (S.bucketCount ls) code (length ls)) ≡ S.treeArea more ++ sections)
       (buckets : bucketsAfter p (S.bucketCount ls) ≡ S.bucketCount more) where
-    state-is : stateWith (stateImage h) (l .time) (l .load) (l .note) p ≡ stateImage (putHistory h l)
+    state-is : stateWith (h .log .form) (stateImage h) (l .time) (l .load) (l .note) p ≡ stateImage (putHistory h l)
     unfolding stateWith stateImage putLog
     state-is =
         let n = sym (O.length-snoc ls l) in
-        rw (n, buckets, live-with (h .log .closed) ls l (h .log .oldest) (h .log .next), loads-is, buffer-is, bloom-is, start-with ls l, low-is, high-is)
+        rw (n, buckets, loads-is, buffer-is, bloom-is, start-with ls l, low-is, high-is)
 
     pub put-world : putWorld (image h) slots (l .time) (l .load) (l .note) p ≡ image (putHistory h l)
-    unfolding putWorld image stateImage putLog
-    put-world = rw (nand-is, nor-is _ written, state-is)
+    unfolding putWorld liveWith image stateImage putLog
+    put-world = rw (
+      nand-is,
+      nor-is _ written,
+      state-is,
+      live-once (h .log .form) _ (l .time) (firstStart (h .log .closed) ls (h .log .next)),
+      live-with (h .log .closed) ls l (h .log .oldest) (h .log .next) (l .time + step (h .log .form)),
+    )

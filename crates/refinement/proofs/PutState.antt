@@ -44,12 +44,13 @@ last-loads xs x = go (decLt (length xs) 13)
         ∙ ap (λ (t : List ℤ). t ++ (x ∷ [])) (drop-drop 1 (length xs - 13) xs)
         ∙ sym (append-nil (drop (length xs - 13 + 1) (xs ++ (x ∷ []))) ∙ drop-append-le (length xs - 13 + 1) xs (x ∷ []) (omega arith)))
 
--- the oldest live time
+-- the start of the oldest retained lift, form 0's oldest live time
 pub live-with : (closed : List (List Lift)) (ls : List Lift) (l : Lift) (oldest next : ℕ)
-    → cond (eqb (length ls) 0 && eqb oldest (oldest + length closed)) (l .time) (firstStart closed ls next) ≡ firstStart closed (ls ++ (l ∷ [])) (l .time + 1)
-live-with [] [] l oldest next = let e : oldest ≡ oldest + 0 = omega arith in rw (eq-eqb oldest (oldest + 0) e)
-live-with [] (m ∷ ls) l oldest next = rw (ne-eqb (suc (length ls)) 0 (λ z. omega arith))
-live-with (ms ∷ rest) ls l oldest next = rw (ne-eqb oldest (oldest + suc (length rest)) (λ z. omega arith)) (off (eqb (length ls) 0))
+    → (after : ℕ) → cond (eqb (length ls) 0 && eqb oldest (oldest + length closed)) (l .time) (firstStart closed ls next)
+    ≡ firstStart closed (ls ++ (l ∷ [])) after
+live-with [] [] l oldest next after = let e : oldest ≡ oldest + 0 = omega arith in rw (eq-eqb oldest (oldest + 0) e)
+live-with [] (m ∷ ls) l oldest next after = rw (ne-eqb (suc (length ls)) 0 (λ z. omega arith))
+live-with (ms ∷ rest) ls l oldest next after = rw (ne-eqb oldest (oldest + suc (length rest)) (λ z. omega arith)) (off (eqb (length ls) 0))
   where
     off : (t : Bool) → cond (t && false) (l .time) (S.startTime ms) ≡ S.startTime ms
     off true = refl

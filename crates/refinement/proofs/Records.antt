@@ -146,7 +146,7 @@ module _ (h : History) (g : Good h) where
   open-page : 0 < length (h .log .current) → (p : ℕ) → p < 32 → pageOf (nandImage h) slot p ≡ openPage (h .log .current) p
   open-page q p l =
       page-of-nand h g slot p slot-there l
-      ∙ page-open (h .log .slots) (h .log .oldest) (h .log .closed) (h .log .current) (oldestHeads h) p
+      ∙ page-open (h .log .form) (h .log .slots) (h .log .oldest) (h .log .closed) (h .log .current) (oldestHeads h) p
       (omega (arith, g .serial)) (g .busy q)
 
   pub current-reads : Reads (pagesOf (nandImage h) (slotOf (openSerial (h .log)) (h .log .slots)) 0 20)

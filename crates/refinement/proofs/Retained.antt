@@ -4,17 +4,23 @@ use mathlib.Core.Path.{_≡_, refl, sym, ap, ap₂, subst, _∙_}
 use mathlib.Core.Bool.{Bool, true, false, cond, _&&_}
 use mathlib.Core.List.{List, [], _∷_, _++_, map}
 use Prim.Native.Nat.{ℕ, zero, suc, _+_, _-_, _*_, _/_, _%_, _^_, _≤_, _<_}
+use native.Mathlib.Decide.{decLt}
 use native.Mathlib.Omega.{arith}
 use lib.Dec.{eqb, leb, ltb}
 use lib.IntN.{ℤ}
-use lib.ListN.{length, drop, replicate, length-append}
+use lib.ListN.{length, getD, drop, replicate, length-append, length-map}
 use lib.Signed.{leZ}
 use borrow.Author.Tests.{le-leb, lt-ltb, eq-eqb, ne-eqb, leb-true}
+use Rattle.form.specs.declared.Form.{Form}
+use Rattle.form.specs.declared.Form.the-variants.{Old, New}
+use Rattle.form.specs.Forms.{step, serialWidth, serialIn}
 use Rattle.flash.specs.Chip.{slotOf, pageOf}
 use Rattle.lift.specs.Limits.{timeOk, loadOk, stored}
 use Rattle.lift.proofs.Codes.{within-limits, stored-le}
 use Rattle.skiplist.specs.declared.Pointer.{Pointer}
-use Rattle.skiplist.specs.Skip.{pointer, isNone, inSlots, levelOf, headsAfter}
+use Rattle.skiplist.specs.Skip.{pointing, none, isNone, inSlots, levelOf, headsAfter}
+use Rattle.skiplist.proofs.Nodes.{heads-below, heads-above}
+use Rattle.segment.proofs.HeaderBytes.{level-most}
 use Rattle.segment.specs.declared.Header.{Header}
 use Rattle.segment.specs.Header.{pointerGood, pointersGood, headerIn, headerPage}
 use Rattle.segment.proofs.HeaderRead.{headerOf}
@@ -24,42 +30,33 @@ use Rattle.paper_log.specs.Log.{Lift, Log, openSerial, codes}
 use Rattle.refinement.specs.Segments as S
 use Rattle.refinement.specs.Image.{History, oldestHeads, pageFrom, pageImage, nandImage}
 use Rattle.refinement.proofs.Good as G
-use Rattle.refinement.proofs.Good.{GoodLifts, Built, AllBuilt, Times, Segments, Starts, Good}
+use Rattle.refinement.proofs.Good.{GoodLifts, Built, AllBuilt, Times, Segments, Limited, Good}
 use Rattle.refinement.proofs.Lengths.{length-codes, good-loads}
 use Rattle.flash.proofs.Slots.{slots-differ, slot-below}
-use Rattle.refinement.proofs.PageLengths.{four-heads, four-oldest, page-of-nand}
+use Rattle.refinement.proofs.PageLengths.{four-after, four-heads, four-oldest, page-of-nand}
 use Rattle.refinement.proofs.ClosePage.{few-buckets}
 use Rattle.refinement.proofs.PageFrom.{headsAt}
 use Rattle.refinement.proofs.Close.{end-time}
-use Rattle.refinement.proofs.InBounds.{both, or-right, times-up, start-below, segments-up, starts-up, low-ok, high-ok, low-most, high-least, le-self}
+use Rattle.refinement.proofs.InBounds.{both, or-right, times-up, start-below, segments-up, low-ok, high-ok, low-most, high-least, le-self}
 
 -- ---- its pages
 
-pub page-retained : (slots n : ℕ) (before : List (List Lift)) (ls : List Lift) (after : List (List Lift)) (current : List Lift) (heads : List Pointer) (p : ℕ)
+pub page-retained : (v : Form) (slots n : ℕ) (before : List (List Lift)) (ls : List Lift) (after : List (List Lift)) (current : List Lift) (heads : List Pointer) (p : ℕ)
     → 1 ≤ n → length before < slots
-    → pageFrom slots n (before ++ (ls ∷ after)) current heads (slotOf (n + length before) slots) p
-    ≡ S.closedPage (n + length before) ls (headsAt slots n before heads) p
+    → pageFrom v slots n (before ++ (ls ∷ after)) current heads (slotOf (n + length before) slots) p
+    ≡ S.closedPage v (n + length before) ls (headsAt v slots n before heads) p
 unfolding pageFrom S.headsFrom
-page-retained slots n [] ls after current heads p h k =
+page-retained v slots n [] ls after current heads p h k =
     let e : n + 0 ≡ n = omega arith in
     rw (e, eq-eqb (slotOf n slots) (slotOf n slots) refl)
-page-retained slots n (ms ∷ rest) ls after current heads p h k =
+page-retained v slots n (ms ∷ rest) ls after current heads p h k =
     let e : n + suc (length rest) ≡ suc n + length rest = omega arith in
     rw (e, ne-eqb (slotOf n slots) (slotOf (suc n + length rest) slots) (slots-differ slots n (suc n + length rest) h (omega arith) (omega arith)))
-    (page-retained slots (suc n) rest ls after current _ p (omega arith) (omega arith))
+    (page-retained v slots (suc n) rest ls after current _ p (omega arith) (omega arith))
 
 -- ---- its heads
 
--- start times within their limit
-abbrev pub Limited : List ℕ → Type 0
-Limited [] = Unit {0}
-Limited (t ∷ ts) = (t ≤ 999999999999999) × Limited ts
-
-pub limited-gone : {n m : ℕ} {ts : List ℕ} → Starts n ts m → m ≤ 1000000000000000 → Limited ts
-limited-gone G.none h = tt
-limited-gone (G.more a b r) h = (omega (arith, starts-up r), limited-gone r h)
-
-pub limited-closed : {n m : ℕ} {closed : List (List Lift)} → Segments n closed m → m ≤ 1000000000000000 → Limited (map S.startTime closed)
+pub limited-closed : {d n m : ℕ} {closed : List (List Lift)} → Segments d n closed m → m ≤ 999999999999999 + d → Limited (map S.startTime closed)
 limited-closed G.none h = tt
 limited-closed (G.more (G.more a t) r) h = (omega (arith, times-up t, segments-up r), limited-closed r h)
 
@@ -79,34 +76,68 @@ good-later slots (suc n) (p ∷ ps) e = good-later slots n ps (go (pointerGood s
     go true e = e
     go false e = cc
 
-pub good-heads : (slots n : ℕ) (ts : List ℕ) (heads : List Pointer) → 1 ≤ slots → Limited ts → pointersGood slots heads ≡ true
-    → pointersGood slots (S.headsFrom slots n ts heads) ≡ true
+pub good-heads : (v : Form) (slots n : ℕ) (ts : List ℕ) (heads : List Pointer) → 1 ≤ slots → Limited ts → pointersGood slots heads ≡ true
+    → pointersGood slots (S.headsFrom v slots n ts heads) ≡ true
 unfolding S.headsFrom headsAfter pointerGood
-good-heads slots n [] heads h l e = e
-good-heads slots n (t ∷ ts) heads h l e =
-    good-heads slots (suc n) ts _ h (l .1)
-    (good-run slots (levelOf n) (pointer (slotOf n slots) t) (drop (levelOf n) heads)
+good-heads v slots n [] heads h l e = e
+good-heads v slots n (t ∷ ts) heads h l e =
+    good-heads v slots (suc n) ts _ h (l .1)
+    (good-run slots (levelOf n) (pointing v (slotOf n slots) n t) (drop (levelOf n) heads)
     (both _ _ (le-leb t 999999999999999 (l .0))
-    (or-right (isNone (pointer (slotOf n slots) t)) (ltb (slotOf n slots) slots) (lt-ltb (slotOf n slots) slots (slot-below slots n h))))
+    (or-right (isNone (pointing v (slotOf n slots) n t)) (ltb (slotOf n slots) slots) (lt-ltb (slotOf n slots) slots (slot-below slots n h))))
     (good-later slots (levelOf n) heads e))
 
 pub good-none : (slots : ℕ) → pointersGood slots S.noHeads ≡ true
 unfolding pointersGood pointerGood
 good-none slots = refl
 
+-- the serials in them fit their bytes: 0 in form 0
+serial-fits : (v : Form) (n : ℕ) → n < 2 ^ 32 → serialIn v n < 256 ^ serialWidth v
+serial-fits Old n l = omega arith
+serial-fits New n l = l
+
+none-fits : (v : Form) (k : ℕ) → getD S.noHeads k none .serial < 256 ^ serialWidth v
+none-fits v k = rw (none-there k) (zero-fits v)
+  where
+    none-there : (k : ℕ) → getD S.noHeads k none ≡ none
+    none-there zero = refl
+    none-there (suc zero) = refl
+    none-there (suc (suc zero)) = refl
+    none-there (suc (suc (suc zero))) = refl
+    none-there (suc (suc (suc (suc k)))) = refl
+
+    zero-fits : (v : Form) → 0 < 256 ^ serialWidth v
+    zero-fits Old = omega arith
+    zero-fits New = omega arith
+
+pub serials-from : (v : Form) (slots n : ℕ) (ts : List ℕ) (heads : List Pointer) → length heads ≡ 4 → n + length ts ≤ 2 ^ 32
+    → ((k : ℕ) → getD heads k none .serial < 256 ^ serialWidth v)
+    → (k : ℕ) → getD (S.headsFrom v slots n ts heads) k none .serial < 256 ^ serialWidth v
+unfolding S.headsFrom
+serials-from v slots n [] heads four l f k = f k
+serials-from v slots n (t ∷ ts) heads four l f k =
+    serials-from v slots (suc n) ts _ (four-after heads n (pointing v (slotOf n slots) n t) four) (omega arith) one k
+  where
+    one : (k : ℕ) → getD (headsAfter heads (levelOf n) (pointing v (slotOf n slots) n t)) k none .serial < 256 ^ serialWidth v
+    one k = go (decLt k (levelOf n))
+      where
+        go : Dec (k < levelOf n) → getD (headsAfter heads (levelOf n) (pointing v (slotOf n slots) n t)) k none .serial < 256 ^ serialWidth v
+        go (yes m) = rw (heads-below heads four (levelOf n) (level-most n) (pointing v (slotOf n slots) n t) k m) (serial-fits v n (omega arith))
+        go (no m) = rw (heads-above heads four (levelOf n) (level-most n) (pointing v (slotOf n slots) n t) k (omega arith)) (f k)
+
 -- ---- a closed segment among the others
 
 -- what holds of it: next time before and after it, and of those around it
-pub record Among (n : ℕ) (before : List (List Lift)) (ls : List Lift) (after : List (List Lift)) (m : ℕ) : Type 0 where
+pub record Among (d n : ℕ) (before : List (List Lift)) (ls : List Lift) (after : List (List Lift)) (m : ℕ) : Type 0 where
   pub from : ℕ
   pub to : ℕ
-  pub earlier : Segments n before from
-  pub own : Times from ls to
-  pub later : Segments to after m
+  pub earlier : Segments d n before from
+  pub own : Times d from ls to
+  pub later : Segments d to after m
   pub some-lift : 0 < length ls
 
-pub among : {n m : ℕ} (before : List (List Lift)) (ls : List Lift) (after : List (List Lift)) → Segments n (before ++ (ls ∷ after)) m
-    → Among n before ls after m
+pub among : {d n m : ℕ} (before : List (List Lift)) (ls : List Lift) (after : List (List Lift)) → Segments d n (before ++ (ls ∷ after)) m
+    → Among d n before ls after m
 among [] (l ∷ ls) after (G.more t r) = record { from = _; to = _; earlier = G.none; own = t; later = r; some-lift = omega arith }
 among ((k ∷ ks) ∷ before) ls after (G.more t r) =
     let a = among before ls after r in
@@ -117,13 +148,13 @@ built-among [] ls after b = b .0
 built-among (ms ∷ before) ls after b = built-among before ls after (b .1)
 
 -- the first lift is not after the last one
-start-end : (ls : List Lift) {n m : ℕ} → Times n ls m → 0 < length ls → S.startTime ls ≤ S.endTime ls
+start-end : (ls : List Lift) {d n m : ℕ} → Times d n ls m → 0 < length ls → S.startTime ls ≤ S.endTime ls
 start-end ls t h = omega (arith, start-below ls t h .1, end-time ls t h)
 
 module _ (h : History) (g : Good h) (before : List (List Lift)) (ls : List Lift) (after : List (List Lift))
     (is : h .log .closed ≡ before ++ (ls ∷ after)) where
-  pub facts : Among (g .before) before ls after (g .begun)
-  facts = among before ls after (subst (λ (c : List (List Lift)). Segments (g .before) c (g .begun)) is (g .closed))
+  pub facts : Among (step (h .log .form)) (g .before) before ls after (g .begun)
+  facts = among before ls after (subst (λ (c : List (List Lift)). Segments (step (h .log .form)) (g .before) c (g .begun)) is (g .closed))
 
   pub built : Built ls
   built = built-among before ls after (subst AllBuilt is (g .segments))
@@ -135,20 +166,20 @@ module _ (h : History) (g : Good h) (before : List (List Lift)) (ls : List Lift)
   serialOf = h .log .oldest + length before
 
   abbrev headsOf : List Pointer
-  headsOf = headsAt (h .log .slots) (h .log .oldest) before (oldestHeads h)
+  headsOf = headsAt (h .log .form) (h .log .slots) (h .log .oldest) before (oldestHeads h)
 
   four-of : length headsOf ≡ 4
-  four-of = four-heads (h .log .slots) (h .log .oldest) (map S.startTime before) (oldestHeads h) (four-oldest h g)
+  four-of = four-heads (h .log .form) (h .log .slots) (h .log .oldest) (map S.startTime before) (oldestHeads h) (four-oldest h g)
 
   slots-some : 1 ≤ h .log .slots
   slots-some = omega (arith, g .least)
 
   -- its pages
-  pub retained-page : (p : ℕ) → p < 32 → pageOf (nandImage h) (slotOf serialOf (h .log .slots)) p ≡ S.closedPage serialOf ls headsOf p
+  pub retained-page : (p : ℕ) → p < 32 → pageOf (nandImage h) (slotOf serialOf (h .log .slots)) p ≡ S.closedPage (h .log .form) serialOf ls headsOf p
   retained-page p l =
       page-of-nand h g (slotOf serialOf (h .log .slots)) p (slot-below (h .log .slots) serialOf slots-some) l
-      ∙ ap (λ (c : List (List Lift)). pageFrom (h .log .slots) (h .log .oldest) c (h .log .current) (oldestHeads h) (slotOf serialOf (h .log .slots)) p) is
-      ∙ page-retained (h .log .slots) (h .log .oldest) before ls after (h .log .current) (oldestHeads h) p (omega (arith, g .serial))
+      ∙ ap (λ (c : List (List Lift)). pageFrom (h .log .form) (h .log .slots) (h .log .oldest) c (h .log .current) (oldestHeads h) (slotOf serialOf (h .log .slots)) p) is
+      ∙ page-retained (h .log .form) (h .log .slots) (h .log .oldest) before ls after (h .log .current) (oldestHeads h) p (omega (arith, g .serial))
       (omega (arith, g .room, count-closed))
 
   limits : (l : List Lift) → GoodLifts l → 0 < length l
@@ -162,7 +193,7 @@ module _ (h : History) (g : Good h) (before : List (List Lift)) (ls : List Lift)
       (within-limits low a .low, leb-true _ _ (sym (stored-le low high a b) ∙ low-most (l .load) high (S.loadsOf ls) (high-least (l .load) (l .load) (S.loadsOf ls) (le-self (l .load)))), within-limits high b .high)
 
   -- its header
-  pub sound : (bound : ℕ) → serialOf < bound → Sound (S.closingOf serialOf ls headsOf) (h .log .slots) bound
+  pub sound : (bound : ℕ) → serialOf < bound → Sound (S.closingOf (h .log .form) serialOf ls headsOf) (h .log .slots) bound
   unfolding S.closingOf
   sound bound q =
       let f = facts in
@@ -184,15 +215,18 @@ module _ (h : History) (g : Good h) (before : List (List Lift)) (ls : List Lift)
         low-high = k .1;
         high-limit = k .2;
         heads-four = four-of;
-        heads-good = good-heads (h .log .slots) (h .log .oldest) (map S.startTime before) (oldestHeads h) slots-some
+        heads-good = good-heads (h .log .form) (h .log .slots) (h .log .oldest) (map S.startTime before) (oldestHeads h) slots-some
             (limited-closed (f .earlier) (omega (arith, times-up (f .own), segments-up (f .later), times-up (g .current), g .end)))
-            (good-heads (h .log .slots) 1 (h .gone) S.noHeads slots-some
-            (limited-gone (g .went) (omega (arith, segments-up (g .closed), times-up (g .current), g .end))) (good-none (h .log .slots)));
+            (good-heads (h .log .form) (h .log .slots) 1 (h .gone) S.noHeads slots-some
+            (g .limited) (good-none (h .log .slots)));
+        serials-fit = λ k q. serials-from (h .log .form) (h .log .slots) (h .log .oldest) (map S.startTime before) (oldestHeads h) (four-oldest h g)
+            (omega (arith, g .last, count-closed, length-map before S.startTime))
+            (serials-from (h .log .form) (h .log .slots) 1 (h .gone) S.noHeads refl (omega (arith, g .last, g .serial)) (none-fits (h .log .form))) k;
       }
 
   pub retained-header : (bound : ℕ) → serialOf < bound
-      → headerIn (pageOf (nandImage h) (slotOf serialOf (h .log .slots)) 31) (h .log .slots) bound ≡ headerOf (S.closingOf serialOf ls headsOf) true
-  unfolding S.closedPage
+      → headerIn (h .log .form) (pageOf (nandImage h) (slotOf serialOf (h .log .slots)) 31) (h .log .slots) bound ≡ headerOf (S.closingOf (h .log .form) serialOf ls headsOf) true
+  unfolding S.closedPage S.closingOf
   retained-header bound q =
-      ap (λ (page : List ℕ). headerIn page (h .log .slots) bound) (retained-page 31 (omega arith))
-      ∙ header-decoded (S.closingOf serialOf ls headsOf) (h .log .slots) bound (sound bound q)
+      ap (λ (page : List ℕ). headerIn (h .log .form) page (h .log .slots) bound) (retained-page 31 (omega arith))
+      ∙ header-decoded (S.closingOf (h .log .form) serialOf ls headsOf) (h .log .slots) bound (sound bound q)

@@ -7,10 +7,9 @@ use mathlib.Core.List.{List, [], _∷_, _++_, map, append-nil}
 use Prim.Native.Nat.{ℕ, _+_, _<_}
 use native.Mathlib.Numerals.{add-one}
 use native.Mathlib.Omega.{arith}
-use lib.Dec.{eqb, leb}
+use lib.Dec.{eqb}
 use lib.IntN.{ℤ}
 use lib.ListN.{length, getD, length-append}
-use borrow.Author.Tests.{leb-true}
 use Rattle.lift.specs.Limits.{loadOk}
 use Rattle.skiplist.specs.Skip as Skip
 use Rattle.tree.proofs.Clears.{both}
@@ -18,9 +17,10 @@ use Rattle.walk.specs.declared.Cursor.{Cursor}
 use Rattle.walk.specs.declared.Log.{Log}
 use Rattle.walk.specs.declared.Query.{Query}
 use Rattle.walk.specs.declared.SkipWalk.{SkipWalk}
-use Rattle.walk.specs.Seek.{skipWalk, reachedBy, startOf}
+use Rattle.walk.specs.Seek.{isLast, skipWalk, reachedBy, startOf}
 use Rattle.walk.specs.Visit.{advanceOf}
 use Rattle.search.specs.Found.{rowsFrom, closedFound, foundRows}
+use Rattle.store.specs.World.{livenessOf}
 use Rattle.store.specs.Queries.{logOf, queryOf}
 use Rattle.paper_log.specs.Log.{Lift, openSerial, rowOf, among, joined, found}
 use Rattle.refinement.specs.Segments as S
@@ -30,7 +30,7 @@ use Rattle.refinement.proofs.InBounds.{start-below}
 use Rattle.refinement.proofs.Wanted.{map-append, joined-append, among-append, early-all}
 use Rattle.refinement.proofs.Records.{current-reads}
 use Rattle.refinement.proofs.OneSegment.{open-rows}
-use Rattle.refinement.proofs.LevelOne.{level-one}
+use Rattle.refinement.proofs.LevelOne.{last-before, level-one}
 use Rattle.refinement.proofs.SkipWalk.{Reaches, walk-reaches}
 
 module _ (h : History) (g : Good h) (t1 t2 : ℕ) (k1 k2 : ℤ) (ok1 : loadOk k1 ≡ true) (ok2 : loadOk k2 ≡ true) where
@@ -43,7 +43,7 @@ module _ (h : History) (g : Good h) (t1 t2 : ℕ) (k1 k2 : ℤ) (ok1 : loadOk k1
   abbrev closedLifts : List Lift
   closedLifts = among t1 t2 k1 k2 (joined (h .log .closed))
 
-  -- "unless that segment has lifts and its start ≤ t1": a search that ends at once
+  -- the open segment has lifts and is the last one to be done: a search that ends at once
   abbrev done : Cursor
   done = record { good = true; last = true; next = Skip.none; before = openSerial (h .log) }
 
@@ -52,7 +52,7 @@ module _ (h : History) (g : Good h) (t1 t2 : ℕ) (k1 k2 : ℤ) (ok1 : loadOk k1
   ended c e n = rw (add-one n, e)
 
   -- from where the skip walk ends
-  walked : (w : SkipWalk) → Reaches h t1 t2 k1 k2 w → closedFound (nandImage h) log q (reachedBy w) ≡ some (map rowOf closedLifts)
+  walked : (w : SkipWalk) → Reaches h t1 t2 k1 k2 w → closedFound (nandImage h) log (liveOf (h .log)) q (reachedBy w) ≡ some (map rowOf closedLifts)
   unfolding stateImage
   walked w r =
       let n = ap length (r .is) ∙ length-append (r .older) (r .skipped) in
@@ -69,33 +69,33 @@ module _ (h : History) (g : Good h) (t1 t2 : ℕ) (k1 k2 : ℤ) (ok1 : loadOk k1
           ∙ among-append t1 t2 k1 k2 (joined (r .older)) (joined (r .skipped))
           ∙ ap (λ (x : List Lift). among t1 t2 k1 k2 (joined (r .older)) ++ x) (r .unwanted) ∙ append-nil _
 
-  -- the open segment has lifts and its start ≤ t1: all closed ones are earlier
-  all-early : (not (eqb (length (h .log .current)) 0) && leb (S.startTime (h .log .current)) t1) ≡ true → closedLifts ≡ []
+  -- then all closed ones are earlier
+  all-early : (not (eqb (length (h .log .current)) 0) && isLast (h .log .form) (S.startTime (h .log .current)) t1) ≡ true → closedLifts ≡ []
   all-early e =
-      let b = both (not (eqb (length (h .log .current)) 0)) (leb (S.startTime (h .log .current)) t1) e in
+      let b = both (not (eqb (length (h .log .current)) 0)) (isLast (h .log .form) (S.startTime (h .log .current)) t1) e in
       early-all t1 t2 k1 k2 (g .closed)
       (omega (
         arith,
         start-below (h .log .current) (g .current) (some-lift (h .log .current) (b .0)) .0,
-        leb-true (S.startTime (h .log .current)) t1 (b .1),
+        last-before (h .log .form) (S.startTime (h .log .current)) t1 (b .1),
       ))
     where
       some-lift : (ls : List Lift) → not (eqb (length ls) 0) ≡ true → 0 < length ls
       some-lift [] e = absurd (let z : _≡_ {A = ℕ} 0 1 = cc in omega arith)
       some-lift (l ∷ ls) e = omega arith
 
-  closed-found : closedFound (nandImage h) log q (startOf (nandImage h) log q) ≡ some (map rowOf closedLifts)
+  closed-found : closedFound (nandImage h) log (liveOf (h .log)) q (startOf (nandImage h) log (liveOf (h .log)) q) ≡ some (map rowOf closedLifts)
   unfolding startOf stateImage
-  closed-found = go (not (eqb (length (h .log .current)) 0) && leb (S.startTime (h .log .current)) t1) refl
+  closed-found = go (not (eqb (length (h .log .current)) 0) && isLast (h .log .form) (S.startTime (h .log .current)) t1) refl
     where
-      go : (t : Bool) → (not (eqb (length (h .log .current)) 0) && leb (S.startTime (h .log .current)) t1) ≡ t
-          → closedFound (nandImage h) log q (cond t done (reachedBy (skipWalk (nandImage h) log t2)))
+      go : (t : Bool) → (not (eqb (length (h .log .current)) 0) && isLast (h .log .form) (S.startTime (h .log .current)) t1) ≡ t
+          → closedFound (nandImage h) log (liveOf (h .log)) q (cond t done (reachedBy (skipWalk (nandImage h) log (liveOf (h .log)) t2)))
           ≡ some (map rowOf closedLifts)
       go true e = ended done refl (openSerial (h .log)) ∙ ap (λ (x : List Lift). some (map rowOf x)) (sym (all-early e))
-      go false e = walked (skipWalk (nandImage h) log t2) (walk-reaches h g t1 t2 k1 k2)
+      go false e = walked (skipWalk (nandImage h) log (liveOf (h .log)) t2) (walk-reaches h g t1 t2 k1 k2)
 
   pub search-found : foundRows (image h .nand) (image h .nor) (image h .state .page) (logOf (image h .state) (h .log .slots))
-      (queryOf t1 t2 k1 k2) ≡ some (map rowOf (found (h .log) t1 t2 k1 k2))
+      (livenessOf (image h)) (queryOf t1 t2 k1 k2) ≡ some (map rowOf (found (h .log) t1 t2 k1 k2))
   unfolding foundRows image stateImage found
   search-found =
       rw (

@@ -16,6 +16,7 @@ use Rattle.lift.specs.Limits.{timeOk, loadOk}
 use Rattle.tree.proofs.Clears.{both}
 use Rattle.search.specs.Answers.{searchAnswer, rowBytes}
 use Rattle.search.specs.Found.{foundRows}
+use Rattle.store.specs.World.{livenessOf}
 use Rattle.store.specs.Queries.{logOf, queryOf, searchGround, searchOutcome}
 use Rattle.paper_log.specs.Log.{found, rowOf}
 use Rattle.paper_log.specs.Calls as Paper
@@ -54,7 +55,7 @@ module _ (h : History) (g : Good h) (k t1 t2 : ℕ) (k1 k2 : ℤ) where
 
   -- what is found where no ground of its own holds
   pub found-if : windowGround h k t1 t2 k1 k2 ≡ 0
-      → foundRows (image h .nand) (image h .nor) (image h .state .page) (logOf (image h .state) k) (queryOf t1 t2 k1 k2)
+      → foundRows (image h .nand) (image h .nor) (image h .state .page) (logOf (image h .state) k) (livenessOf (image h)) (queryOf t1 t2 k1 k2)
       ≡ some (map rowOf (found (h .log) t1 t2 k1 k2))
   unfolding queryGround
   found-if e =
@@ -112,7 +113,7 @@ module _ (h : History) (g : Good h) (k t1 t2 : ℕ) (k1 k2 : ℤ) where
       where
         go : (t : Bool) → eqb window 0 ≡ t
             → searched (cond t (searchAnswer area
-            (foundRows (image h .nand) (image h .nor) (image h .state .page) (logOf (image h .state) k) (queryOf t1 t2 k1 k2)))
+            (foundRows (image h .nand) (image h .nor) (image h .state .page) (logOf (image h .state) k) (livenessOf (image h)) (queryOf t1 t2 k1 k2)))
             (record { number = window; count = 0; area = area }))
             ≡ replyOf (cond t (Paper.ground 12 isFull 0) window)
         go true e = rw (found-if (eqb-true window 0 e)) answer-is

@@ -29,8 +29,8 @@ use Rattle.refinement.proofs.Wanted.{none-wanted, late-all}
 use Rattle.refinement.proofs.Pointers.{Leads, dead, to, leads-heads, leads-node}
 
 -- next time before a segment may be taken as its start
-from-start : (ls : List Lift) {n k m : ℕ} (rest : List (List Lift)) → 0 < length ls → Times n ls k → Segments k rest m
-    → Segments (S.startTime ls) (ls ∷ rest) m
+from-start : (ls : List Lift) {d n k m : ℕ} (rest : List (List Lift)) → 0 < length ls → Times d n ls k → Segments d k rest m
+    → Segments d (S.startTime ls) (ls ∷ rest) m
 from-start [] rest h t r = absurd (omega arith)
 from-start (l ∷ ls) rest h (G.more a t) r = G.more (G.more (le-refl _) t) r
 
@@ -69,7 +69,7 @@ module _ (h : History) (g : Good h) (t1 t2 : ℕ) (k1 k2 : ℤ) where
       moved hd = record { good = hd .good; level = cond (hd .good) (suc k) 0; before = hd .serial; pointers = hd .next }
 
       go : (t : Bool) → (isLive p (liveOf (h .log)) && ltb t2 (p .time)) ≡ t → Leads h (r .older) k p
-          → At (cond t (moved (headerAt (nandImage h) (h .log .slots) p (w .before)))
+          → At (cond t (moved (headerAt (h .log .form) (nandImage h) (h .log .slots) p (w .before)))
           (record { good = true; level = k; before = w .before; pointers = w .pointers }))
       go false e lead = record {
         good = refl;
@@ -88,10 +88,10 @@ module _ (h : History) (g : Good h) (t1 t2 : ℕ) (k1 k2 : ℤ) where
           let late : t2 < S.startTime ls =
           ltb-true t2 (S.startTime ls) (ap (λ (x : Pointer). ltb t2 (x .time)) (sym q)
           ∙ both (isLive p (liveOf (h .log))) (ltb t2 (p .time)) e .1) in
-          let read : headerAt (nandImage h) (h .log .slots) p (w .before)
-          ≡ headerOf (S.closingOf (h .log .oldest + length before) ls
-          (headsAt (h .log .slots) (h .log .oldest) before (oldestHeads h))) true =
-          ap (λ (x : Pointer). headerAt (nandImage h) (h .log .slots) x (w .before)) q
+          let read : headerAt (h .log .form) (nandImage h) (h .log .slots) p (w .before)
+          ≡ headerOf (S.closingOf (h .log .form) (h .log .oldest + length before) ls
+          (headsAt (h .log .form) (h .log .slots) (h .log .oldest) before (oldestHeads h))) true =
+          ap (λ (x : Pointer). headerAt (h .log .form) (nandImage h) (h .log .slots) x (w .before)) q
           ∙ retained-header h g before ls (after ++ r .skipped) there (w .before) (omega (arith, r .before)) in
           subst (λ (hd : Header). At (moved hd)) (sym read) (record {
             good = refl;
@@ -109,7 +109,7 @@ module _ (h : History) (g : Good h) (t1 t2 : ℕ) (k1 k2 : ℤ) where
   hops-reach (suc n) w r = hops-reach n _ (hop-reaches w (w .level) r)
 
   -- the walk from the heads
-  pub walk-reaches : Reaches h t1 t2 k1 k2 (skipWalk (nandImage h) (logOf (stateImage h) (h .log .slots)) t2)
+  pub walk-reaches : Reaches h t1 t2 k1 k2 (skipWalk (nandImage h) (logOf (stateImage h) (h .log .slots)) (liveOf (h .log)) t2)
   unfolding skipWalk stateImage joined
   walk-reaches =
       hops-reach _ _ (record {

@@ -7,6 +7,7 @@ use native.Mathlib.Omega.{arith}
 use lib.Dec.{eqb, leb, ltb}
 use lib.ListN.{length, getD}
 use borrow.Author.Tests.{eqb-true, eqb-false, ltb-false, leb-false, leb-true}
+use Rattle.form.specs.declared.Form.{Form}
 use Rattle.lift.specs.Limits.{timeOk, loadOk}
 use Rattle.store.specs.World.{World, closeWorld, dropWorld}
 use Rattle.store.specs.Calls.{Outcome, outcome, closeGround, closeOutcome, dropGround, dropOutcome, appendGround, appendWorld, appendOutcome}
@@ -99,15 +100,15 @@ module _ (h : History) (g : Good h) (k : ℕ) where
       (eqb-true k (h .log .slots) (passed _ (a .0)), omega arith)
 
   dropped : 0 < length (h .log .closed) → (dropWorld (image h) (h .log .slots) ≡ image (dropHistory h)) × Good (dropHistory h)
-  dropped q = go (h .log .slots) (h .log .oldest) (h .log .closed) (h .log .current) (h .log .next) (h .gone) g q
+  dropped q = go (h .log .form) (h .log .slots) (h .log .oldest) (h .log .closed) (h .log .current) (h .log .next) (h .gone) g q
     where
-      go : (slots oldest : ℕ) (closed : List (List Lift)) (current : List Lift) (next : ℕ) (gone : List ℕ) → Good (history slots oldest closed current next gone)
+      go : (v : Form) (slots oldest : ℕ) (closed : List (List Lift)) (current : List Lift) (next : ℕ) (gone : List ℕ) → Good (history v slots oldest closed current next gone)
           → 0 < length closed
-          → (dropWorld (image (history slots oldest closed current next gone)) slots ≡ image (dropHistory (history slots oldest closed current next gone)))
-          × Good (dropHistory (history slots oldest closed current next gone))
-      go slots oldest [] current next gone g q = absurd (omega arith)
-      go slots oldest (ms ∷ rest) current next gone g q =
-          (drop-world-some slots oldest ms rest current next gone g, good-drop-some slots oldest ms rest current next gone g)
+          → (dropWorld (image (history v slots oldest closed current next gone)) slots ≡ image (dropHistory (history v slots oldest closed current next gone)))
+          × Good (dropHistory (history v slots oldest closed current next gone))
+      go v slots oldest [] current next gone g q = absurd (omega arith)
+      go v slots oldest (ms ∷ rest) current next gone g q =
+          (drop-world-some v slots oldest ms rest current next gone g, good-drop-some v slots oldest ms rest current next gone g)
 
   pub drop-step : dropOutcome (image h) k ≡ record { number = Paper.numberOf (h .log) (Paper.drop k); world = image (after h (Paper.drop k)) }
   unfolding dropOutcome

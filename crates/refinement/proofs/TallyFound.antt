@@ -18,6 +18,7 @@ use Rattle.plate.specs.Plate.{noCounts, countsOf}
 use Rattle.search.specs.Answers.{TallyAnswer, tallyAnswer, rowCodes}
 use Rattle.search.specs.Found.{foundRows}
 use Rattle.bounds.specs.Grounds.{queryGround}
+use Rattle.store.specs.World.{livenessOf}
 use Rattle.store.specs.Queries.{logOf, queryOf, tallyOutcome}
 use Rattle.paper_log.specs.Calls as Paper
 use Rattle.paper_log.specs.Log.{Lift, codes, wanted, among, joined, found, rowOf}
@@ -87,7 +88,7 @@ module _ (h : History) (g : Good h) (k t1 t2 : ℕ) where
     where
       go : (t : Bool) → eqb window 0 ≡ t
           → cond t (tallyAnswer (foundRows (image h .nand) (image h .nor) (image h .state .page) (logOf (image h .state) k)
-          (queryOf t1 t2 allLow allHigh)))
+          (livenessOf (image h)) (queryOf t1 t2 allLow allHigh)))
           (record { number = window; counts = noCounts })
           ≡ cond t (record { number = 0; counts = countsOf (codes (found (h .log) t1 t2 allLow allHigh)) })
           (record { number = window; counts = noCounts })

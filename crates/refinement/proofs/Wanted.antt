@@ -3,7 +3,7 @@
 use mathlib.Core.Path.{_≡_, refl, sym, ap, ap₂, _∙_}
 use mathlib.Core.Bool.{Bool, true, false, cond, _&&_}
 use mathlib.Core.List.{List, [], _∷_, _++_, map, append-assoc}
-use Prim.Native.Nat.{ℕ, suc, _≤_, _<_}
+use Prim.Native.Nat.{ℕ, suc, _+_, _<_}
 use native.Mathlib.Omega.{arith}
 use lib.Dec.{leb}
 use lib.IntN.{ℤ, pos}
@@ -68,24 +68,24 @@ module _ (t1 t2 : ℕ) (k1 k2 : ℤ) where
       go false = refl
 
   -- lifts before the window, and after it
-  pub early : {n m : ℕ} {ls : List Lift} → Times n ls m → m ≤ t1 → among t1 t2 k1 k2 ls ≡ []
+  pub early : {d n m : ℕ} {ls : List Lift} → Times d n ls m → m < t1 + d → among t1 t2 k1 k2 ls ≡ []
   early G.none h = none-wanted [] (λ p q. absurd (omega arith))
   early (G.more {l = l} {ls = ls} a t) h = step-none l ls (before-window l (omega (arith, times-up t))) (early t h)
 
-  pub late : {n m : ℕ} {ls : List Lift} → Times n ls m → t2 < n → among t1 t2 k1 k2 ls ≡ []
+  pub late : {d n m : ℕ} {ls : List Lift} → Times d n ls m → t2 < n → among t1 t2 k1 k2 ls ≡ []
   late G.none h = none-wanted [] (λ p q. absurd (omega arith))
   late (G.more {l = l} {ls = ls} a t) h = step-none l ls (after-window l (omega arith)) (late t (omega arith))
 
   two : (a b : List Lift) → some-of a ≡ [] → some-of b ≡ [] → some-of (a ++ b) ≡ []
   two a b p q = among-append a b ∙ ap₂ _++_ p q
 
-  pub early-all : {n m : ℕ} {c : List (List Lift)} → Segments n c m → m ≤ t1 → among t1 t2 k1 k2 (joined c) ≡ []
+  pub early-all : {d n m : ℕ} {c : List (List Lift)} → Segments d n c m → m < t1 + d → among t1 t2 k1 k2 (joined c) ≡ []
   unfolding joined
   early-all G.none h = none-wanted [] (λ p q. absurd (omega arith))
   early-all (G.more {l = l} {ls = ls} {rest = rest} t r) h =
       two (l ∷ ls) (joined rest) (early t (omega (arith, segments-up r))) (early-all r h)
 
-  pub late-all : {n m : ℕ} {c : List (List Lift)} → Segments n c m → t2 < n → among t1 t2 k1 k2 (joined c) ≡ []
+  pub late-all : {d n m : ℕ} {c : List (List Lift)} → Segments d n c m → t2 < n → among t1 t2 k1 k2 (joined c) ≡ []
   unfolding joined
   late-all G.none h = none-wanted [] (λ p q. absurd (omega arith))
   late-all (G.more {l = l} {ls = ls} {rest = rest} t r) h =

@@ -7,10 +7,11 @@ use lib.ListN.{length}
 use Rattle.flash.specs.Chip.{slotOf, erasedPage}
 use Rattle.bloom.specs.Pages.{each}
 use Rattle.skiplist.specs.declared.Pointer.{Pointer}
-use Rattle.skiplist.specs.Skip.{pointer, levelOf, headsAfter}
+use Rattle.form.specs.declared.Form.{Form}
+use Rattle.skiplist.specs.Skip.{Live, pointing, levelOf, headsAfter}
 use Rattle.search.specs.Answers.{rowBytes}
 use Rattle.store.specs.declared.State.{State}
-use Rattle.store.specs.World.{World}
+use Rattle.store.specs.World.{World, liveTime, oldestBy}
 use Rattle.paper_log.specs.Log.{Lift, Log, openSerial, codes}
 use Rattle.refinement.specs.Segments.{startTime, closedPage, openPage, headsFrom, noHeads, norOf, bucketCount, loadsOf, lowOf, highOf, lastThirteen, pageBuffer, bloomBuffer}
 
@@ -21,20 +22,20 @@ pub record History : Type 0 where
 
 -- the heads where the oldest retained serial was closed, and the heads of the open serial
 abbrev pub oldestHeads : History → List Pointer
-oldestHeads h = headsFrom (h .log .slots) 1 (h .gone) noHeads
+oldestHeads h = headsFrom (h .log .form) (h .log .slots) 1 (h .gone) noHeads
 
 abbrev pub openHeads : History → List Pointer
-openHeads h = headsFrom (h .log .slots) (h .log .oldest) (map startTime (h .log .closed)) (oldestHeads h)
+openHeads h = headsFrom (h .log .form) (h .log .slots) (h .log .oldest) (map startTime (h .log .closed)) (oldestHeads h)
 
 -- page p of slot s: of the closed serials from n on, then of the open one; erased where no serial has lifts there
-unfoldable pub pageFrom : ℕ → ℕ → List (List Lift) → List Lift → List Pointer → ℕ → ℕ → List ℕ
-pageFrom slots n [] current heads s p = cond (eqb (slotOf n slots) s) (openPage current p) erasedPage
-pageFrom slots n (ls ∷ rest) current heads s p =
-    cond (eqb (slotOf n slots) s) (closedPage n ls heads p)
-    (pageFrom slots (suc n) rest current (headsAfter heads (levelOf n) (pointer (slotOf n slots) (startTime ls))) s p)
+unfoldable pub pageFrom : Form → ℕ → ℕ → List (List Lift) → List Lift → List Pointer → ℕ → ℕ → List ℕ
+pageFrom f slots n [] current heads s p = cond (eqb (slotOf n slots) s) (openPage current p) erasedPage
+pageFrom f slots n (ls ∷ rest) current heads s p =
+    cond (eqb (slotOf n slots) s) (closedPage f n ls heads p)
+    (pageFrom f slots (suc n) rest current (headsAfter heads (levelOf n) (pointing f (slotOf n slots) n (startTime ls))) s p)
 
 abbrev pub pageImage : History → ℕ → ℕ → List ℕ
-pageImage h s p = pageFrom (h .log .slots) (h .log .oldest) (h .log .closed) (h .log .current) (oldestHeads h) s p
+pageImage h s p = pageFrom (h .log .form) (h .log .slots) (h .log .oldest) (h .log .closed) (h .log .current) (oldestHeads h) s p
 
 -- all pages, slot by slot
 unfoldable pub nandImage : History → List ℕ
@@ -46,8 +47,12 @@ firstStart [] [] next = next
 firstStart [] (l ∷ ls) next = l .time
 firstStart (ls ∷ rest) current next = startTime ls
 
-abbrev pub liveOf : Log → ℕ
-liveOf g = firstStart (g .closed) (g .current) (g .next)
+abbrev pub oldestTime : Log → ℕ
+oldestTime g = liveTime (g .form) (firstStart (g .closed) (g .current) (g .next))
+
+-- what the history's pointers are judged by
+abbrev pub liveOf : Log → Live
+liveOf g = oldestBy (g .form) (oldestTime g) (g .oldest)
 
 unfoldable pub stateImage : History → State
 stateImage h = record {
@@ -56,7 +61,6 @@ stateImage h = record {
   count = length (h .log .current);
   buckets = bucketCount (h .log .current);
   next = h .log .next;
-  live = liveOf (h .log);
   heads = openHeads h;
   loads = lastThirteen (loadsOf (h .log .current));
   page = pageBuffer (h .log .current);
@@ -67,4 +71,5 @@ stateImage h = record {
 }
 
 unfoldable pub image : History → World
-image h = record { nand = nandImage h; nor = norOf (h .log .current); state = stateImage h }
+image h =
+    record { form = h .log .form; nand = nandImage h; nor = norOf (h .log .current); state = stateImage h; live = oldestTime (h .log) }

@@ -12,7 +12,8 @@ use Rattle.lift.specs.Limits.{stored}
 use Rattle.bloom.specs.Bloom.{sectionOf}
 use Rattle.bloom.specs.Pages.{each, segmentSections, bloomPage}
 use Rattle.skiplist.specs.declared.Pointer.{Pointer}
-use Rattle.skiplist.specs.Skip.{pointer, none, levelOf, headsAfter}
+use Rattle.form.specs.declared.Form.{Form}
+use Rattle.skiplist.specs.Skip.{pointing, none, levelOf, headsAfter}
 use Rattle.segment.specs.declared.Closing.{Closing}
 use Rattle.segment.specs.Header.{headerPage}
 use Rattle.tree.specs.Rules.{bucketsOf}
@@ -95,8 +96,9 @@ norOf ls = treeArea ls ++ (wholeSections (codes ls) ++ repeated (1536 - length (
 -- ---- pages
 
 -- what the close of serial n with these heads was given
-unfoldable pub closingOf : ℕ → List Lift → List Pointer → Closing
-closingOf n ls heads = record {
+unfoldable pub closingOf : Form → ℕ → List Lift → List Pointer → Closing
+closingOf f n ls heads = record {
+  form = f;
   serial = n;
   count = length ls;
   buckets = bucketCount ls;
@@ -110,13 +112,13 @@ closingOf n ls heads = record {
 }
 
 -- page p of a closed segment
-unfoldable pub closedPage : ℕ → List Lift → List Pointer → ℕ → List ℕ
-closedPage n ls heads p =
+unfoldable pub closedPage : Form → ℕ → List Lift → List Pointer → ℕ → List ℕ
+closedPage f n ls heads p =
     cond (ltb p 20) (liftPage ls p)
     (cond (ltb p 29) (part (treeArea ls) ((p - 20) * 512) 512)
     (cond (eqb p 29) (bloomPage (segmentSections (codes ls)) 0)
     (cond (eqb p 30) (cond (ltb 256 (length ls)) (bloomPage (segmentSections (codes ls)) 1) erasedPage)
-    (headerPage (closingOf n ls heads)))))
+    (headerPage (closingOf f n ls heads)))))
 
 -- page p of the open segment: its full lift pages
 unfoldable pub openPage : List Lift → ℕ → List ℕ
@@ -125,9 +127,9 @@ openPage ls p = cond (ltb p (length ls / 16)) (liftPage ls p) erasedPage
 -- ---- heads
 
 -- the heads after the segments of these starts, serial n first, have been closed
-unfoldable pub headsFrom : ℕ → ℕ → List ℕ → List Pointer → List Pointer
-headsFrom slots n [] heads = heads
-headsFrom slots n (t ∷ ts) heads = headsFrom slots (suc n) ts (headsAfter heads (levelOf n) (pointer (slotOf n slots) t))
+unfoldable pub headsFrom : Form → ℕ → ℕ → List ℕ → List Pointer → List Pointer
+headsFrom f slots n [] heads = heads
+headsFrom f slots n (t ∷ ts) heads = headsFrom f slots (suc n) ts (headsAfter heads (levelOf n) (pointing f (slotOf n slots) n t))
 
 abbrev pub noHeads : List Pointer
 noHeads = replicate 4 none

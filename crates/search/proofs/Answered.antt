@@ -7,6 +7,7 @@ use Prim.Native.Nat.{ℕ, _+_, _*_, _/_, _≤_, _<_}
 use native.Mathlib.Omega.{arith}
 use lib.ListN.{length}
 use borrow.Author.Tests.{not-true, not-false, lt-ltb, le-ltb}
+use Rattle.skiplist.specs.Skip.{Live}
 use Rattle.walk.specs.declared.Cursor.{Cursor}
 use Rattle.walk.specs.declared.Log.{Log}
 use Rattle.walk.specs.declared.Query.{Query}
@@ -41,30 +42,30 @@ count-good n (some rows) e h = never (sym (ap (λ (x : Counted). x .good) e) ∙
 
 -- ---- all segments
 
-module _ (nand nor page : List ℕ) (g : Log) (q : Query) (c : Cursor) where
+module _ (nand nor page : List ℕ) (g : Log) (live : Live) (q : Query) (c : Cursor) where
   -- damage on the way to the closed segments, or in the open one
   pub all-none : (b : Bool) → (b ≡ false → openRows nand nor page g q ≡ none) → (c .good && b) ≡ false
-      → allRows nand nor page g q c ≡ none
+      → allRows nand nor page g live q c ≡ none
   all-none b f e = go (c .good) refl e
     where
-      go : (t : Bool) → c .good ≡ t → (t && b) ≡ false → allRows nand nor page g q c ≡ none
+      go : (t : Bool) → c .good ≡ t → (t && b) ≡ false → allRows nand nor page g live q c ≡ none
       go false h e = rw h
-      go true h e = ap (joinRows (closedFound nand g q c)) (f e) ∙ join-none (closedFound nand g q c)
+      go true h e = ap (joinRows (closedFound nand g live q c)) (f e) ∙ join-none (closedFound nand g live q c)
 
   module _ (size : length nand ≡ g .slots * 16384) (begun : Begun g c) where
-    pub closed-is : c .good ≡ true → closedFound nand g q c ≡ rowsAfter nand (g .slots) (g .live) q c
+    pub closed-is : c .good ≡ true → closedFound nand g live q c ≡ rowsAfter nand (g .slots) live q c
     closed-is e =
-        ap (λ (b : Bool). cond b (rowsFrom (g .current + 1) nand (g .slots) (g .live) q c) none) e
-        ∙ rows-any nand (g .slots) (g .live) q size c (begun .sound) (g .current + 1) (omega (arith, begun .before-most e))
+        ap (λ (b : Bool). cond b (rowsFrom (g .current + 1) nand (g .slots) live q c) none) e
+        ∙ rows-any nand (g .slots) live q size c (begun .sound) (g .current + 1) (omega (arith, begun .before-most e))
 
-    pub all-is : c .good ≡ true → allRows nand nor page g q c
-        ≡ joinRows (rowsAfter nand (g .slots) (g .live) q c) (openRows nand nor page g q)
+    pub all-is : c .good ≡ true → allRows nand nor page g live q c
+        ≡ joinRows (rowsAfter nand (g .slots) live q c) (openRows nand nor page g q)
     all-is e = ap (λ (o : Option (List (List ℕ))). joinRows o (openRows nand nor page g q)) (closed-is e)
 
     -- counting
     module _ (n : Counted) (is : n ≡ countOf 0 (openRows nand nor page g q)) where
       pub count-all-none : not (c .good && n .good) ≡ true
-          → _≡_ {A = Counted} (record { good = false; total = 0 }) (countOf 0 (allRows nand nor page g q c))
+          → _≡_ {A = Counted} (record { good = false; total = 0 }) (countOf 0 (allRows nand nor page g live q c))
       count-all-none e =
           sym (ap (countOf 0) (all-none (n .good) (λ h. count-good n (openRows nand nor page g q) is h) (not-true _ e)))
 
@@ -76,16 +77,16 @@ module _ (nand nor page : List ℕ) (g : Log) (q : Query) (c : Cursor) where
           few o h = omega arith
 
       pub count-all-some : not (c .good && n .good) ≡ false → (r : Counted)
-          → r ≡ countOf (n .total) (rowsAfter nand (g .slots) (g .live) q c)
-          → r ≡ countOf 0 (allRows nand nor page g q c)
+          → r ≡ countOf (n .total) (rowsAfter nand (g .slots) live q c)
+          → r ≡ countOf 0 (allRows nand nor page g live q c)
       count-all-some e r f =
           let a = and-left (c .good) (n .good) (not-false _ e) in
           let b = and-right (c .good) (n .good) (not-false _ e) in
-          let j = count-join 0 (rowsAfter nand (g .slots) (g .live) q c) (openRows nand nor page g q) n is in
+          let j = count-join 0 (rowsAfter nand (g .slots) live q c) (openRows nand nor page g q) n is in
           f ∙ rw b at j ∙ ap (countOf 0) (sym (all-is a))
 
     -- writing
-    module _ (total : ℕ) (counts : CountIs total (allRows nand nor page g q c)) where
+    module _ (total : ℕ) (counts : CountIs total (allRows nand nor page g live q c)) where
       pub all-good : c .good ≡ true
       all-good = go (c .good) refl
         where
@@ -93,35 +94,35 @@ module _ (nand nor page : List ℕ) (g : Log) (q : Query) (c : Cursor) where
           go true h = h
           go false h = let z : CountIs total none = rw (all-none true (λ e. never e) (rw h refl)) at counts in absurd z
 
-      joined : CountIs total (joinRows (rowsAfter nand (g .slots) (g .live) q c) (openRows nand nor page g q))
+      joined : CountIs total (joinRows (rowsAfter nand (g .slots) live q c) (openRows nand nor page g q))
       joined = rw (all-is all-good) at counts
 
       pub open-fits : length (rowsIn (openRows nand nor page g q)) ≤ total
-      open-fits = newer-fit total (rowsAfter nand (g .slots) (g .live) q c) (openRows nand nor page g q) joined
+      open-fits = newer-fit total (rowsAfter nand (g .slots) live q c) (openRows nand nor page g q) joined
 
       module _ (area new : List ℕ) (row : ℕ) (room : total * 32 ≤ length area)
           (u : WrittenUpTo area new (rowsIn (openRows nand nor page g q)) total row) where
-        pub closed-count : CountIs row (rowsAfter nand (g .slots) (g .live) q c)
+        pub closed-count : CountIs row (rowsAfter nand (g .slots) live q c)
         closed-count =
-            older-left area new total row room (rowsAfter nand (g .slots) (g .live) q c) (openRows nand nor page g q) joined u
+            older-left area new total row room (rowsAfter nand (g .slots) live q c) (openRows nand nor page g q) joined u
 
-        pub all-written : (final : List ℕ) → final ≡ writtenIn new (rowsAfter nand (g .slots) (g .live) q c)
-            → final ≡ writtenIn area (allRows nand nor page g q c)
+        pub all-written : (final : List ℕ) → final ≡ writtenIn new (rowsAfter nand (g .slots) live q c)
+            → final ≡ writtenIn area (allRows nand nor page g live q c)
         all-written final e =
-            e ∙ older-before area new total row room (rowsAfter nand (g .slots) (g .live) q c) (openRows nand nor page g q)
-            (rows-wide nand (g .slots) (g .live) q size c (begun .sound)) joined u
+            e ∙ older-before area new total row room (rowsAfter nand (g .slots) live q c) (openRows nand nor page g q)
+            (rows-wide nand (g .slots) live q size c (begun .sound)) joined u
             ∙ ap (writtenIn area) (sym (all-is all-good))
 
 -- ---- the answer
 
-pub begun-at : (nand : List ℕ) (g : Log) (q : Query) (c : Cursor) → InSlots (g .slots) (g .heads) → c ≡ startOf nand g q
-    → Begun g c
-begun-at nand g q c h e = rw e (start-begun nand g q h)
+pub begun-at : (nand : List ℕ) (g : Log) (live : Live) (q : Query) (c : Cursor) → InSlots (g .slots) (g .heads)
+    → c ≡ startOf nand g live q → Begun g c
+begun-at nand g live q c h e = rw e (start-begun nand g live q h)
 
-pub found-is : (nand nor page : List ℕ) (g : Log) (q : Query) (c : Cursor) → c ≡ startOf nand g q
-    → allRows nand nor page g q c ≡ foundRows nand nor page g q
+pub found-is : (nand nor page : List ℕ) (g : Log) (live : Live) (q : Query) (c : Cursor) → c ≡ startOf nand g live q
+    → allRows nand nor page g live q c ≡ foundRows nand nor page g live q
 unfolding foundRows
-found-is nand nor page g q c e = rw e
+found-is nand nor page g live q c e = rw e
 
 abbrev answer : ℕ → ℕ → List ℕ → SearchAnswer
 answer number count area = record { number = number; count = count; area = area }

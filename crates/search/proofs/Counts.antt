@@ -7,6 +7,7 @@ use Prim.Native.Nat.{ℕ, _+_, _*_, _≤_}
 use native.Mathlib.Omega.{arith}
 use lib.ListN.{length, length-append}
 use Rattle.bitset.specs.Set.{members}
+use Rattle.skiplist.specs.Skip.{Live}
 use Rattle.sweep.specs.declared.Sweep.{Sweep}
 use Rattle.walk.specs.declared.Closed.{Closed}
 use Rattle.walk.specs.declared.Cursor.{Cursor}
@@ -41,7 +42,7 @@ pub count-most : (total : ℕ) (newer : Option (List (List ℕ))) → FewIn newe
 count-most total none f = omega arith
 count-most total (some rows) f = omega arith
 
-module _ (nand : List ℕ) (slots live : ℕ) (q : Query) (size : length nand ≡ slots * 16384) (r : Counting)
+module _ (nand : List ℕ) (slots : ℕ) (live : Live) (q : Query) (size : length nand ≡ slots * 16384) (r : Counting)
     (sound : Sound slots (r .c))
     (busy : r .done ≡ false) (good : r .n .good ≡ true) where
   left : (o : Option (List (List ℕ))) → rowsAfter nand slots live q (r .c) ≡ o
@@ -106,14 +107,14 @@ module _ (nand : List ℕ) (slots live : ℕ) (q : Query) (size : length nand �
 
 -- ---- the count on its way: as many steps are left as the serial says
 
-pub record CountGoes (nand : List ℕ) (slots live : ℕ) (q : Query) (all : Counted) (top : ℕ) (r : Counting) : Type 0 where
+pub record CountGoes (nand : List ℕ) (slots : ℕ) (live : Live) (q : Query) (all : Counted) (top : ℕ) (r : Counting) : Type 0 where
   pub busy : r .done ≡ false
   pub good : r .n .good ≡ true
   pub sound : Sound slots (r .c)
   pub leads : countLeft nand slots live q r ≡ all
   pub room : r .n .total + 320 * r .c .before ≤ 320 + 320 * top
 
-module _ (nand : List ℕ) (slots live : ℕ) (q : Query) (all : Counted) (top : ℕ) (r : Counting)
+module _ (nand : List ℕ) (slots : ℕ) (live : Live) (q : Query) (all : Counted) (top : ℕ) (r : Counting)
     (i : CountGoes nand slots live q all top r)
     (next : Counting) (o : CountsOn nand slots live q r next) where
   pub count-again : next .done ≡ false → CountGoes nand slots live q all top next

@@ -11,7 +11,7 @@ use lib.ListN.{length, length-append}
 use borrow.Author.Tests.{ltb-true, ltb-false, lt-ltb, le-ltb}
 use Rattle.codec.specs.Number.{numberAt}
 use Rattle.flash.specs.Chip.{pageOf}
-use Rattle.skiplist.specs.Skip.{isLive}
+use Rattle.skiplist.specs.Skip.{Live, isLive}
 use Rattle.segment.specs.declared.Header.{Header}
 use Rattle.segment.specs.Header.{headerIn}
 use Rattle.walk.specs.declared.Cursor.{Cursor}
@@ -95,16 +95,17 @@ SerialRead nand Damage = Unit {0}
 SerialRead nand (Pass d) = Unit {0}
 SerialRead nand (Visit s d) = d .before ≡ serialIn nand (s .slot)
 
-serial-read : (nand : List ℕ) (slots live : ℕ) (q : Query) (c : Cursor) → SerialRead nand (advanceOf nand slots live q c)
+serial-read : (nand : List ℕ) (slots : ℕ) (live : Live) (q : Query) (c : Cursor) → SerialRead nand (advanceOf nand slots live q c)
 unfolding advanceOf headerIn
 serial-read nand slots live q c =
     go (c .last || not (isLive (c .next) live)) (not (header .good)) (isPassed nand (c .next .slot) header q)
   where
     header : Header
-    header = headerAt nand slots (c .next) (c .before)
+    header = headerAt (live .form) nand slots (c .next) (c .before)
 
-    go : (ends bad passed : Bool) → SerialRead nand (cond ends End (cond bad Damage (cond passed (Pass (cursorAfter header q))
-        (Visit (closedOf (c .next .slot) header) (cursorAfter header q)))))
+    go : (ends bad passed : Bool) → SerialRead nand (cond ends End (cond bad Damage
+        (cond passed (Pass (cursorAfter (live .form) header q))
+        (Visit (closedOf (c .next .slot) header) (cursorAfter (live .form) header q)))))
     go true bad passed = tt
     go false true passed = tt
     go false false true = tt
@@ -127,7 +128,7 @@ most-join n none newer a b = tt
 most-join n (some older) none a b = tt
 most-join n (some older) (some newer) a b = omega (arith, length-append older newer)
 
-module _ (nand : List ℕ) (slots live : ℕ) (q : Query) (size : length nand ≡ slots * 16384) where
+module _ (nand : List ℕ) (slots : ℕ) (live : Live) (q : Query) (size : length nand ≡ slots * 16384) where
   -- the slots that may yet be visited
   abbrev left : ℕ → ℕ
   left before = slotsBelow (serialIn nand) slots before
@@ -163,23 +164,24 @@ module _ (nand : List ℕ) (slots live : ℕ) (q : Query) (size : length nand �
   rows-most n c sound rows e = rw e at (from-most n c sound)
 
 -- all segments
-pub found-most : (nand nor page : List ℕ) (g : Log) (q : Query) → LogSound nand nor g → (rows : List (List ℕ))
-    → foundRows nand nor page g q ≡ some rows → length rows ≤ mostFound (g .slots)
+pub found-most : (nand nor page : List ℕ) (g : Log) (live : Live) (q : Query) → LogSound nand nor g → (rows : List (List ℕ))
+    → foundRows nand nor page g live q ≡ some rows → length rows ≤ mostFound (g .slots)
 unfolding foundRows
-found-most nand nor page g q sound rows e =
-    let m = rw e at (most-join (320 * g .slots) (closedFound nand g q c) (openRows nand nor page g q) (closed (c .good))
+found-most nand nor page g live q sound rows e =
+    let m = rw e at (most-join (320 * g .slots) (closedFound nand g live q c) (openRows nand nor page g q) (closed (c .good))
     (open-few nand nor page g q)) in
     omega arith
   where
     c : Cursor
-    c = startOf nand g q
+    c = startOf nand g live q
 
     older : Option (List (List ℕ))
-    older = rowsFrom (g .current + 1) nand (g .slots) (g .live) q c
+    older = rowsFrom (g .current + 1) nand (g .slots) live q c
 
     closed : (good : Bool) → AtMost (320 * g .slots) (cond good older none)
     closed true =
         let l = slots-most (serialIn nand) (g .slots) (c .before) in
         most-less (320 * slotsBelow (serialIn nand) (g .slots) (c .before)) (320 * g .slots) older (omega arith)
-        (from-most nand (g .slots) (g .live) q (sound .nand-size) (g .current + 1) c (start-begun nand g q (sound .heads-in) .sound))
+        (from-most nand (g .slots) live q (sound .nand-size) (g .current + 1) c
+        (start-begun nand g live q (sound .heads-in) .sound))
     closed false = tt

@@ -8,6 +8,7 @@ use native.Mathlib.Omega.{arith}
 use lib.ListN.{length, getD}
 use borrow.Author.Tests.{not-true, not-false}
 use Rattle.plate.specs.Plate.{noCounts}
+use Rattle.skiplist.specs.Skip.{Live}
 use Rattle.walk.specs.declared.Closed.{Closed}
 use Rattle.walk.specs.declared.Cursor.{Cursor}
 use Rattle.walk.specs.declared.Log.{Log}
@@ -39,7 +40,7 @@ tally-some counts from more (some rows) codes b e f h = ap (plates true) (e ∙ 
 
 -- ---- one segment on
 
-module _ (nand : List ℕ) (slots live : ℕ) (q : Query) (size : length nand ≡ slots * 16384) (r : Tallying)
+module _ (nand : List ℕ) (slots : ℕ) (live : Live) (q : Query) (size : length nand ≡ slots * 16384) (r : Tallying)
     (sound : Sound slots (r .c))
     (busy : r .done ≡ false) (good : r .n .good ≡ true) where
   left : (o : Option (List (List ℕ))) → rowsAfter nand slots live q (r .c) ≡ o
@@ -104,7 +105,7 @@ module _ (nand : List ℕ) (slots live : ℕ) (q : Query) (size : length nand �
 
 -- ---- a tally on its way
 
-pub record TallyGoes (nand : List ℕ) (slots live : ℕ) (q : Query) (all : Plates) (top : ℕ) (r : Tallying) : Type 0 where
+pub record TallyGoes (nand : List ℕ) (slots : ℕ) (live : Live) (q : Query) (all : Plates) (top : ℕ) (r : Tallying) : Type 0 where
   pub busy : r .done ≡ false
   pub good : r .n .good ≡ true
   pub sound : Sound slots (r .c)
@@ -112,7 +113,7 @@ pub record TallyGoes (nand : List ℕ) (slots live : ℕ) (q : Query) (all : Pla
   pub low : r .c .before ≤ top
   pub few : NoneAbove (320 + 320 * (top - r .c .before)) (r .n .counts)
 
-module _ (nand : List ℕ) (slots live : ℕ) (q : Query) (all : Plates) (top : ℕ) (r : Tallying)
+module _ (nand : List ℕ) (slots : ℕ) (live : Live) (q : Query) (all : Plates) (top : ℕ) (r : Tallying)
     (i : TallyGoes nand slots live q all top r) where
   pub tally-room : top < 2 ^ 32 → NoneAbove (2 ^ 63) (r .n .counts)
   tally-room h k = omega (arith, i .few k)
@@ -137,7 +138,7 @@ module _ (nand : List ℕ) (slots live : ℕ) (q : Query) (all : Plates) (top : 
         ended : all ≡ tallyLeft nand slots live q next → next .n ≡ all
         ended e = sym (e ∙ rw h)
 
-pub tally-starts : (nand : List ℕ) (slots live : ℕ) (q : Query) (c : Cursor) (counts : List ℕ) → Sound slots c
+pub tally-starts : (nand : List ℕ) (slots : ℕ) (live : Live) (q : Query) (c : Cursor) (counts : List ℕ) → Sound slots c
     → NoneAbove 320 counts
     → TallyGoes nand slots live q (tallyOf counts (rowsAfter nand slots live q c)) (c .before)
     (record { done = false; c = c; n = plates true counts })
@@ -153,7 +154,7 @@ plates-bad : (n : Plates) (o : Option (List (List ℕ))) → n ≡ tallyOf noCou
 plates-bad n none e h = refl
 plates-bad n (some rows) e h = never (sym (ap (λ (x : Plates). x .good) e) ∙ h)
 
-module _ (nand nor page : List ℕ) (g : Log) (q : Query) (c : Cursor) (n : Plates)
+module _ (nand nor page : List ℕ) (g : Log) (live : Live) (q : Query) (c : Cursor) (n : Plates)
     (is : n ≡ tallyOf noCounts (openRows nand nor page g q)) where
   pub first-few : NoneAbove 320 (n .counts)
   first-few i = rw is (few i)
@@ -166,28 +167,28 @@ module _ (nand nor page : List ℕ) (g : Log) (q : Query) (c : Cursor) (n : Plat
                 (λ j. omega (arith, none-zero j)) i,
           )
 
-  pub tally-none : not (c .good && n .good) ≡ true → tallied 10 noCounts ≡ tallyAnswer (allRows nand nor page g q c)
+  pub tally-none : not (c .good && n .good) ≡ true → tallied 10 noCounts ≡ tallyAnswer (allRows nand nor page g live q c)
   unfolding tallyAnswer
   tally-none e =
-      sym (ap tallyAnswer (all-none nand nor page g q c (n .good) (λ h. plates-bad n (openRows nand nor page g q) is h)
+      sym (ap tallyAnswer (all-none nand nor page g live q c (n .good) (λ h. plates-bad n (openRows nand nor page g q) is h)
       (not-true _ e)))
 
   module _ (size : length nand ≡ g .slots * 16384) (begun : Begun g c) (e : not (c .good && n .good) ≡ false) (all : Plates)
-      (all-are : all ≡ tallyOf (n .counts) (rowsAfter nand (g .slots) (g .live) q c)) where
-    whole : all ≡ tallyOf noCounts (allRows nand nor page g q c)
+      (all-are : all ≡ tallyOf (n .counts) (rowsAfter nand (g .slots) live q c)) where
+    whole : all ≡ tallyOf noCounts (allRows nand nor page g live q c)
     whole =
         let a = and-left (c .good) (n .good) (not-false _ e) in
         let b = and-right (c .good) (n .good) (not-false _ e) in
-        let j = tally-join noCounts (rowsAfter nand (g .slots) (g .live) q c) (openRows nand nor page g q) n is in
-        all-are ∙ rw b at j ∙ ap (tallyOf noCounts) (sym (all-is nand nor page g q c size begun a))
+        let j = tally-join noCounts (rowsAfter nand (g .slots) live q c) (openRows nand nor page g q) n is in
+        all-are ∙ rw b at j ∙ ap (tallyOf noCounts) (sym (all-is nand nor page g live q c size begun a))
 
-    pub tally-spoilt : not (all .good) ≡ true → tallied 10 noCounts ≡ tallyAnswer (allRows nand nor page g q c)
+    pub tally-spoilt : not (all .good) ≡ true → tallied 10 noCounts ≡ tallyAnswer (allRows nand nor page g live q c)
     unfolding tallyAnswer
-    tally-spoilt h = sym (ap tallyAnswer (plates-bad all (allRows nand nor page g q c) whole (not-true _ h)))
+    tally-spoilt h = sym (ap tallyAnswer (plates-bad all (allRows nand nor page g live q c) whole (not-true _ h)))
 
-    pub tally-counts : not (all .good) ≡ false → tallied 0 (all .counts) ≡ tallyAnswer (allRows nand nor page g q c)
+    pub tally-counts : not (all .good) ≡ false → tallied 0 (all .counts) ≡ tallyAnswer (allRows nand nor page g live q c)
     unfolding tallyAnswer
-    tally-counts h = go (allRows nand nor page g q c) whole
+    tally-counts h = go (allRows nand nor page g live q c) whole
       where
         go : (o : Option (List (List ℕ))) → all ≡ tallyOf noCounts o → tallied 0 (all .counts) ≡ tallyAnswer o
         go none f = never (sym (not-false _ h) ∙ ap (λ (x : Plates). x .good) f)

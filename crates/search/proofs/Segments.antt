@@ -8,6 +8,7 @@ use Prim.Native.Nat.{ℕ, zero, suc, _+_, _*_, _<_}
 use native.Mathlib.Numerals.{add-one}
 use native.Mathlib.Omega.{arith}
 use lib.ListN.{length}
+use Rattle.skiplist.specs.Skip.{Live}
 use Rattle.walk.specs.declared.Closed.{Closed}
 use Rattle.walk.specs.declared.Cursor.{Cursor}
 use Rattle.walk.specs.declared.Query.{Query}
@@ -26,7 +27,7 @@ wide-join none newer a b = tt
 wide-join (some older) none a b = tt
 wide-join (some older) (some newer) a b = wide-append 32 older newer a b
 
-module _ (nand : List ℕ) (slots live : ℕ) (q : Query) (size : length nand ≡ slots * 16384) where
+module _ (nand : List ℕ) (slots : ℕ) (live : Live) (q : Query) (size : length nand ≡ slots * 16384) where
   abbrev from : ℕ → Cursor → Option (List (List ℕ))
   from n c = rowsFrom n nand slots live q c
 

@@ -15,6 +15,7 @@ use Rattle.bitset.specs.Set.{members}
 use Rattle.bitset.specs.Emptying.{nextOf}
 use Rattle.bitset.proofs.Set.{Below}
 use Rattle.lift.specs.Rows.{recordIn}
+use Rattle.skiplist.specs.Skip.{Live}
 use Rattle.sweep.specs.declared.Records.{Records}
 use Rattle.sweep.specs.Swept.{Recorded}
 use Rattle.walk.specs.declared.Closed.{Closed}
@@ -139,7 +140,7 @@ wide-in (some rows) w = w
 
 -- ---- one segment on
 
-module _ (nand : List ℕ) (slots live : ℕ) (q : Query) (size : length nand ≡ slots * 16384) (area : List ℕ) (w : Writing)
+module _ (nand : List ℕ) (slots : ℕ) (live : Live) (q : Query) (size : length nand ≡ slots * 16384) (area : List ℕ) (w : Writing)
     (sound : Sound slots (w .c))
     (busy : w .done ≡ false) (counts : CountIs (w .row) (rowsAfter nand slots live q (w .c))) where
   left : (o : Option (List (List ℕ))) → rowsAfter nand slots live q (w .c) ≡ o
@@ -211,7 +212,7 @@ module _ (nand : List ℕ) (slots live : ℕ) (q : Query) (size : length nand �
 
 -- ---- rows on their way
 
-pub record WriteGoes (nand : List ℕ) (slots live : ℕ) (q : Query) (all : List ℕ) (size : ℕ) (area : List ℕ)
+pub record WriteGoes (nand : List ℕ) (slots : ℕ) (live : Live) (q : Query) (all : List ℕ) (size : ℕ) (area : List ℕ)
     (w : Writing) : Type 0 where
   pub busy : w .done ≡ false
   pub sound : Sound slots (w .c)
@@ -220,7 +221,7 @@ pub record WriteGoes (nand : List ℕ) (slots live : ℕ) (q : Query) (all : Lis
   pub long : length area ≡ size
   pub leads : writeLeft nand slots live q area w ≡ all
 
-module _ (nand : List ℕ) (slots live : ℕ) (q : Query) (all : List ℕ) (size : ℕ) (area : List ℕ) (w : Writing)
+module _ (nand : List ℕ) (slots : ℕ) (live : Live) (q : Query) (all : List ℕ) (size : ℕ) (area : List ℕ) (w : Writing)
     (i : WriteGoes nand slots live q all size area w) (new : List ℕ) (next : Writing)
     (o : WritesOn nand slots live q area new w next) where
   pub write-again : next .done ≡ false → WriteGoes nand slots live q all size new next

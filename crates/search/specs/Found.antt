@@ -5,6 +5,7 @@ use mathlib.Core.Bool.{cond}
 use mathlib.Core.Option.{Option, none, some}
 use mathlib.Core.List.{List, [], _++_}
 use Prim.Native.Nat.{ℕ, zero, suc, _+_, _*_}
+use Rattle.skiplist.specs.Skip.{Live}
 use Rattle.walk.specs.declared.Cursor.{Cursor}
 use Rattle.walk.specs.declared.Log.{Log}
 use Rattle.walk.specs.declared.Query.{Query}
@@ -20,7 +21,7 @@ joinRows (some older) (some newer) = some (older ++ newer)
 
 -- the rows of the closed segments from a cursor on, in n steps; serials fall, so as many steps as the serial before says are
 -- enough
-unfoldable pub rowsFrom : ℕ → List ℕ → ℕ → ℕ → Query → Cursor → Option (List (List ℕ))
+unfoldable pub rowsFrom : ℕ → List ℕ → ℕ → Live → Query → Cursor → Option (List (List ℕ))
 rowsFrom zero nand slots live q c = some []
 rowsFrom (suc n) nand slots live q c =
     elim (advanceOf nand slots live q c) [
@@ -30,12 +31,12 @@ rowsFrom (suc n) nand slots live q c =
       | Visit s d ↦ joinRows (rowsFrom n nand slots live q d) (closedRows nand s q)
     ]
 
-abbrev pub closedFound : List ℕ → Log → Query → Cursor → Option (List (List ℕ))
-closedFound nand g q c = cond (c .good) (rowsFrom (g .current + 1) nand (g .slots) (g .live) q c) none
+abbrev pub closedFound : List ℕ → Log → Live → Query → Cursor → Option (List (List ℕ))
+closedFound nand g live q c = cond (c .good) (rowsFrom (g .current + 1) nand (g .slots) live q c) none
 
 -- all rows; none where damage is met
-unfoldable pub foundRows : List ℕ → List ℕ → List ℕ → Log → Query → Option (List (List ℕ))
-foundRows nand nor page g q = joinRows (closedFound nand g q (startOf nand g q)) (openRows nand nor page g q)
+unfoldable pub foundRows : List ℕ → List ℕ → List ℕ → Log → Live → Query → Option (List (List ℕ))
+foundRows nand nor page g live q = joinRows (closedFound nand g live q (startOf nand g live q)) (openRows nand nor page g q)
 
 -- the most rows that are found, whatever the chips hold: 320 for each slot and for the open segment, as damaged pointers can lead into
 -- its slot as well

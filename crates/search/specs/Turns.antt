@@ -8,6 +8,7 @@ use lib.ListN.{length, getD}
 use Rattle.codec.specs.Area.{splice}
 use Rattle.bitset.specs.Set.{members}
 use Rattle.plate.specs.Plate.{noCounts, countedIn}
+use Rattle.skiplist.specs.Skip.{Live}
 use Rattle.sweep.specs.declared.Sweep.{Sweep}
 use Rattle.walk.specs.declared.Cursor.{Cursor}
 use Rattle.walk.specs.declared.Log.{Log}
@@ -23,7 +24,7 @@ use Rattle.search.specs.Found.{joinRows, rowsFrom, closedFound}
 use Rattle.search.specs.Answers.{rowBytes, rowCodes}
 
 -- the rows of the closed segments from a cursor on
-unfoldable pub rowsAfter : List ℕ → ℕ → ℕ → Query → Cursor → Option (List (List ℕ))
+unfoldable pub rowsAfter : List ℕ → ℕ → Live → Query → Cursor → Option (List (List ℕ))
 rowsAfter nand slots live q c = rowsFrom (c .before + 1) nand slots live q c
 
 -- the rows, none where damage was met
@@ -32,8 +33,8 @@ rowsIn none = []
 rowsIn (some rows) = rows
 
 -- all rows, the closed segments from a cursor on
-abbrev pub allRows : List ℕ → List ℕ → List ℕ → Log → Query → Cursor → Option (List (List ℕ))
-allRows nand nor page g q c = joinRows (closedFound nand g q c) (openRows nand nor page g q)
+abbrev pub allRows : List ℕ → List ℕ → List ℕ → Log → Live → Query → Cursor → Option (List (List ℕ))
+allRows nand nor page g live q c = joinRows (closedFound nand g live q c) (openRows nand nor page g q)
 
 -- ---- counting
 
@@ -46,7 +47,7 @@ abbrev pub countedWith : ℕ → Sweep → Counted
 countedWith total m =
     cond (m .good) (record { good = true; total = total + length (members (m .set .words)) }) (record { good = false; total = 0 })
 
-module _ (nand : List ℕ) (slots live : ℕ) (q : Query) where
+module _ (nand : List ℕ) (slots : ℕ) (live : Live) (q : Query) where
   -- what a count comes to
   abbrev pub countLeft : Counting → Counted
   countLeft r = cond (r .done) (r .n) (countOf (r .n .total) (rowsAfter nand slots live q (r .c)))
@@ -76,7 +77,7 @@ abbrev pub CountIs : ℕ → Option (List (List ℕ)) → Type 0
 CountIs n none = ⊥
 CountIs n (some rows) = n ≡ length rows
 
-module _ (nand : List ℕ) (slots live : ℕ) (q : Query) where
+module _ (nand : List ℕ) (slots : ℕ) (live : Live) (q : Query) where
   -- what the area comes to
   abbrev pub writeLeft : List ℕ → Writing → List ℕ
   writeLeft area w = cond (w .done) area (writtenIn area (rowsAfter nand slots live q (w .c)))
@@ -105,7 +106,7 @@ tallyOf counts (some rows) = record { good = true; counts = countedAll counts (r
 abbrev pub NoneAbove : ℕ → List ℕ → Type 0
 NoneAbove n counts = (i : ℕ) → getD counts i 0 ≤ n
 
-module _ (nand : List ℕ) (slots live : ℕ) (q : Query) where
+module _ (nand : List ℕ) (slots : ℕ) (live : Live) (q : Query) where
   abbrev pub tallyLeft : Tallying → Plates
   tallyLeft r = cond (r .done) (r .n) (tallyOf (r .n .counts) (rowsAfter nand slots live q (r .c)))
 

@@ -18,6 +18,7 @@ ghost use Rattle.bitset.proofs.Set.{Below};
 ghost use Rattle.lift.specs.Rows.{codeIn};
 ghost use Rattle.plate.specs.Plate.{noCounts};
 ghost use Rattle.sweep.specs.Swept.{Recorded};
+ghost use Rattle.skiplist.specs.Skip.{serialsFrom};
 ghost use Rattle.walk.specs.Visit.{closedRows, openRows};
 ghost use Rattle.walk.specs.Sound.{Sound, ClosedSound, LogSound};
 ghost use Rattle.search.specs.Turns.{rowsAfter, countedAll, tallyOf, NoneAbove, TalliesOn};
@@ -102,16 +103,16 @@ fn tally_one(nand: &[u8], s: Closed, q: Query, counts: [u64; 21]) -> Plates
 }
 
 // One segment on.
-fn tally_on(nand: &[u8], slots: u64, live: u64, q: Query, r: Tallying) -> Tallying
+fn tally_on(nand: &[u8], slots: u64, oldest: u32, q: Query, r: Tallying) -> Tallying
     requires { ⌜ (length (now nand) ≡ slots * 16384) × (1 ≤ q .k1) ⌝ }
     requires { ⌜ Sound slots (r .c) ⌝ }
     requires { ⌜ (r .done ≡ false) × (r .n .good ≡ true) ⌝ }
     requires { ⌜ NoneAbove (2 ^ 63) (r .n .counts) ⌝ }
-    ensures { λ next. ⌜ TalliesOn (now (nand .entry)) slots live q r next ⌝ }
+    ensures { λ next. ⌜ TalliesOn (now (nand .entry)) slots (serialsFrom oldest) q r next ⌝ }
 {
     let c = r.c;
     let n = r.n;
-    let step = walk::advance(nand, slots, live, q, c);
+    let step = walk::advance(nand, slots, oldest, q, c);
     match step {
         Step::End => Tallying { done: true, c, n },
         Step::Damage => {
@@ -144,7 +145,7 @@ fn tally_on(nand: &[u8], slots: u64, live: u64, q: Query, r: Tallying) -> Tallyi
 pub fn tally_closed(
     nand: &[u8],
     slots: u64,
-    live: u64,
+    oldest: u32,
     q: Query,
     c: Cursor,
     counts: [u64; 21],
@@ -152,7 +153,7 @@ pub fn tally_closed(
     requires { ⌜ (length (now nand) ≡ slots * 16384) × (1 ≤ q .k1) ⌝ }
     requires { ⌜ Sound slots c ⌝ }
     requires { ⌜ NoneAbove 320 counts ⌝ }
-    ensures { λ r. ⌜ r ≡ tallyOf counts (rowsAfter (now (nand .entry)) slots live q c) ⌝ }
+    ensures { λ r. ⌜ r ≡ tallyOf counts (rowsAfter (now (nand .entry)) slots (serialsFrom oldest) q c) ⌝ }
 {
     let mut r = Tallying {
         done: false,
@@ -160,7 +161,7 @@ pub fn tally_closed(
         n: Plates { good: true, counts },
     };
     loop {
-        r = tally_on(nand, slots, live, q, r);
+        r = tally_on(nand, slots, oldest, q, r);
         let done = r.done;
         if done {
             let n = r.n;

@@ -11,6 +11,7 @@ ghost use mathlib.Core.Path.{_≡_};
 ghost use mathlib.Core.Bool.{true, false};
 ghost use Prim.Native.Nat.{_+_, _*_, _^_, _<_, _≤_};
 ghost use lib.ListN.{length};
+ghost use Rattle.skiplist.specs.Skip.{serialsFrom};
 ghost use Rattle.walk.specs.Visit.{closedRows, openRows};
 ghost use Rattle.walk.specs.Sound.{Sound, Begun, ClosedSound, LogSound};
 ghost use Rattle.search.specs.Turns.{allRows, rowsAfter, countOf, countedWith, CountsOn};
@@ -63,15 +64,15 @@ fn count_one(nand: &[u8], s: Closed, q: Query, total: u64) -> Counted
 }
 
 // One segment on.
-fn count_on(nand: &[u8], slots: u64, live: u64, q: Query, r: Counting) -> Counting
+fn count_on(nand: &[u8], slots: u64, oldest: u32, q: Query, r: Counting) -> Counting
     requires { ⌜ (length (now nand) ≡ slots * 16384) × (1 ≤ q .k1) × (r .n .total + 320 < 2 ^ 64) ⌝ }
     requires { ⌜ Sound slots (r .c) ⌝ }
     requires { ⌜ (r .done ≡ false) × (r .n .good ≡ true) ⌝ }
-    ensures { λ next. ⌜ CountsOn (now (nand .entry)) slots live q r next ⌝ }
+    ensures { λ next. ⌜ CountsOn (now (nand .entry)) slots (serialsFrom oldest) q r next ⌝ }
 {
     let c = r.c;
     let n = r.n;
-    let step = walk::advance(nand, slots, live, q, c);
+    let step = walk::advance(nand, slots, oldest, q, c);
     match step {
         Step::End => Counting { done: true, c, n },
         Step::Damage => {
@@ -103,10 +104,10 @@ fn count_on(nand: &[u8], slots: u64, live: u64, q: Query, r: Counting) -> Counti
 }
 
 // How many the closed segments from a cursor on have, with those of the open one.
-fn count_closed(nand: &[u8], slots: u64, live: u64, q: Query, c: Cursor, total: u64) -> Counted
+fn count_closed(nand: &[u8], slots: u64, oldest: u32, q: Query, c: Cursor, total: u64) -> Counted
     requires { ⌜ (length (now nand) ≡ slots * 16384) × (1 ≤ q .k1) × (total ≤ 320) ⌝ }
     requires { ⌜ Sound slots c ⌝ }
-    ensures { λ r. ⌜ r ≡ countOf total (rowsAfter (now (nand .entry)) slots live q c) ⌝ }
+    ensures { λ r. ⌜ r ≡ countOf total (rowsAfter (now (nand .entry)) slots (serialsFrom oldest) q c) ⌝ }
 {
     let mut r = Counting {
         done: false,
@@ -114,7 +115,7 @@ fn count_closed(nand: &[u8], slots: u64, live: u64, q: Query, c: Cursor, total: 
         n: Counted { good: true, total },
     };
     loop {
-        r = count_on(nand, slots, live, q, r);
+        r = count_on(nand, slots, oldest, q, r);
         let done = r.done;
         if done {
             let n = r.n;
@@ -128,7 +129,8 @@ pub fn count_all(nand: &[u8], nor: &[u8], page: &[u8], g: Log, q: Query, c: Curs
     requires { ⌜ LogSound (now nand) (now nor) g ⌝ }
     requires { ⌜ (length (now page) ≡ 512) × (1 ≤ q .k1) ⌝ }
     requires { ⌜ Begun g c ⌝ }
-    ensures { λ r. ⌜ r ≡ countOf 0 (allRows (now (nand .entry)) (now (nor .entry)) (now (page .entry)) g q c) ⌝ }
+    ensures { λ r. ⌜ r ≡ countOf 0
+        (allRows (now (nand .entry)) (now (nor .entry)) (now (page .entry)) g (serialsFrom (g .oldest)) q c) ⌝ }
 {
     let n = count_open(nand, nor, page, g, q);
     let good = c.good & n.good;
@@ -138,5 +140,5 @@ pub fn count_all(nand: &[u8], nor: &[u8], page: &[u8], g: Log, q: Query, c: Curs
             total: 0,
         };
     }
-    count_closed(nand, g.slots, g.live, q, c, n.total)
+    count_closed(nand, g.slots, g.oldest, q, c, n.total)
 }

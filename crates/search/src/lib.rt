@@ -9,6 +9,7 @@ use walk::Query;
 ghost use mathlib.Core.Path.{_≡_};
 ghost use Prim.Native.Nat.{_≤_};
 ghost use Rattle.plate.specs.Plate.{noCounts};
+ghost use Rattle.skiplist.specs.Skip.{serialsFrom};
 ghost use Rattle.walk.specs.Sound.{LogSound};
 ghost use Rattle.search.specs.Found.{foundRows};
 ghost use Rattle.search.specs.Answers.{SearchAnswer, searchAnswer, TallyAnswer, tallyAnswer};
@@ -75,7 +76,7 @@ pub fn search_in(
     requires { ⌜ LogSound (now nand) (now nor) g ⌝ }
     requires { ⌜ 1 ≤ q .k1 ⌝ }
     ensures { λ r. ⌜ _≡_ {A = SearchAnswer} (record { number = r .number; count = r .count; area = now (area .exit) })
-        (searchAnswer (now (area .entry)) (foundRows (now (nand .entry)) (now (nor .entry)) page g q)) ⌝ }
+        (searchAnswer (now (area .entry)) (foundRows (now (nand .entry)) (now (nor .entry)) page g (serialsFrom (g .oldest)) q)) ⌝ }
 {
     let c = walk::start_of(nand, g, q);
     let n = count::count_all(nand, nor, &page, g, q, c);
@@ -116,7 +117,7 @@ pub fn tally_in(nand: &[u8], nor: &[u8], page: [u8; 512], g: Log, q: Query) -> T
     requires { ⌜ LogSound (now nand) (now nor) g ⌝ }
     requires { ⌜ 1 ≤ q .k1 ⌝ }
     ensures { λ r. ⌜ _≡_ {A = TallyAnswer} (record { number = r .number; counts = r .counts })
-        (tallyAnswer (foundRows (now (nand .entry)) (now (nor .entry)) page g q)) ⌝ }
+        (tallyAnswer (foundRows (now (nand .entry)) (now (nor .entry)) page g (serialsFrom (g .oldest)) q)) ⌝ }
 {
     let c = walk::start_of(nand, g, q);
     let n = by_plate::tally_open(nand, nor, &page, g, q);
@@ -125,7 +126,7 @@ pub fn tally_in(nand: &[u8], nor: &[u8], page: [u8; 512], g: Log, q: Query) -> T
         return no_tally(DAMAGE);
     }
     let first = n.counts;
-    let all = by_plate::tally_closed(nand, g.slots, g.live, q, c, first);
+    let all = by_plate::tally_closed(nand, g.slots, g.oldest, q, c, first);
     let sound = all.good;
     if !sound {
         return no_tally(DAMAGE);

@@ -17,6 +17,7 @@ ghost use Rattle.bitset.specs.Set.{members};
 ghost use Rattle.bitset.proofs.Set.{Below};
 ghost use Rattle.lift.specs.Rows.{recordIn};
 ghost use Rattle.sweep.specs.Swept.{Recorded};
+ghost use Rattle.skiplist.specs.Skip.{serialsFrom};
 ghost use Rattle.walk.specs.Visit.{closedRows, openRows};
 ghost use Rattle.walk.specs.Sound.{Sound, Begun, ClosedSound, LogSound};
 ghost use Rattle.search.specs.Answers.{rowBytes};
@@ -88,16 +89,16 @@ fn write_open(
 }
 
 // One segment on.
-fn write_on(area: &mut [u8], nand: &[u8], slots: u64, live: u64, q: Query, w: Writing) -> Writing
+fn write_on(area: &mut [u8], nand: &[u8], slots: u64, oldest: u32, q: Query, w: Writing) -> Writing
     requires { ⌜ (length (now nand) ≡ slots * 16384) × (1 ≤ q .k1) × (w .row * 32 ≤ length (now area)) ⌝ }
     requires { ⌜ Sound slots (w .c) ⌝ }
     requires { ⌜ w .done ≡ false ⌝ }
-    requires { ⌜ CountIs (w .row) (rowsAfter (now nand) slots live q (w .c)) ⌝ }
-    ensures { λ next. ⌜ WritesOn (now (nand .entry)) slots live q (now (area .entry)) (now (area .exit)) w next ⌝ }
+    requires { ⌜ CountIs (w .row) (rowsAfter (now nand) slots (serialsFrom oldest) q (w .c)) ⌝ }
+    ensures { λ next. ⌜ WritesOn (now (nand .entry)) slots (serialsFrom oldest) q (now (area .entry)) (now (area .exit)) w next ⌝ }
 {
     let c = w.c;
     let row = w.row;
-    let step = walk::advance(nand, slots, live, q, c);
+    let step = walk::advance(nand, slots, oldest, q, c);
     match step {
         Step::End => Writing { done: true, c, row },
         Step::Damage => Writing { done: true, c, row },
@@ -118,11 +119,20 @@ fn write_on(area: &mut [u8], nand: &[u8], slots: u64, live: u64, q: Query, w: Wr
 }
 
 // The rows of the closed segments from a cursor on, `row` of them, from the area's start on.
-fn write_closed(area: &mut [u8], nand: &[u8], slots: u64, live: u64, q: Query, c: Cursor, row: u64)
+fn write_closed(
+    area: &mut [u8],
+    nand: &[u8],
+    slots: u64,
+    oldest: u32,
+    q: Query,
+    c: Cursor,
+    row: u64,
+)
     requires { ⌜ (length (now nand) ≡ slots * 16384) × (1 ≤ q .k1) × (row * 32 ≤ length (now area)) ⌝ }
     requires { ⌜ Sound slots c ⌝ }
-    requires { ⌜ CountIs row (rowsAfter (now nand) slots live q c) ⌝ }
-    ensures { λ _. ⌜ now (area .exit) ≡ writtenIn (now (area .entry)) (rowsAfter (now (nand .entry)) slots live q c) ⌝ }
+    requires { ⌜ CountIs row (rowsAfter (now nand) slots (serialsFrom oldest) q c) ⌝ }
+    ensures { λ _. ⌜ now (area .exit)
+        ≡ writtenIn (now (area .entry)) (rowsAfter (now (nand .entry)) slots (serialsFrom oldest) q c) ⌝ }
 {
     let mut w = Writing {
         done: false,
@@ -130,7 +140,7 @@ fn write_closed(area: &mut [u8], nand: &[u8], slots: u64, live: u64, q: Query, c
         row,
     };
     loop {
-        w = write_on(area, nand, slots, live, q, w);
+        w = write_on(area, nand, slots, oldest, q, w);
         let done = w.done;
         if done {
             return;
@@ -152,10 +162,10 @@ pub fn write_all(
     requires { ⌜ LogSound (now nand) (now nor) g ⌝ }
     requires { ⌜ (length (now page) ≡ 512) × (1 ≤ q .k1) × (total * 32 ≤ length (now area)) ⌝ }
     requires { ⌜ Begun g c ⌝ }
-    requires { ⌜ CountIs total (allRows (now nand) (now nor) (now page) g q c) ⌝ }
-    ensures { λ _. ⌜ now (area .exit)
-        ≡ writtenIn (now (area .entry)) (allRows (now (nand .entry)) (now (nor .entry)) (now (page .entry)) g q c) ⌝ }
+    requires { ⌜ CountIs total (allRows (now nand) (now nor) (now page) g (serialsFrom (g .oldest)) q c) ⌝ }
+    ensures { λ _. ⌜ now (area .exit) ≡ writtenIn (now (area .entry))
+        (allRows (now (nand .entry)) (now (nor .entry)) (now (page .entry)) g (serialsFrom (g .oldest)) q c) ⌝ }
 {
     let row = write_open(area, nand, nor, page, g, q, total);
-    write_closed(area, nand, g.slots, g.live, q, c, row);
+    write_closed(area, nand, g.slots, g.oldest, q, c, row);
 }

@@ -8,11 +8,12 @@ use lib.ListN.{getD}
 use borrow.Author.Tests.{ltb-true, leb-true}
 use Rattle.codec.specs.Number.{numberAt}
 use Rattle.lift.specs.Limits.{timeOk}
+use Rattle.form.specs.declared.Form.{Form}
 use Rattle.skiplist.specs.declared.Pointer.{Pointer}
 use Rattle.skiplist.specs.Skip.{none, inSlots}
 use Rattle.skiplist.specs.PointerBytes.{pointersAt}
 use Rattle.segment.specs.declared.Header.{Header}
-use Rattle.segment.specs.Header.{countsGood, pointerGood, pointersGood, countsIn, spanIn, headerGood, headerIn}
+use Rattle.segment.specs.Header.{countsGood, pointerGood, pointersGood, formIn, countsIn, spanIn, headerGood, headerIn}
 use Rattle.segment.proofs.HeaderSound.{and-left, and-right}
 
 -- the facts of a count and a number of buckets that are good
@@ -40,15 +41,17 @@ pub record HeaderFacts (h : Header) (slots before : ℕ) : Type 0 where
   pub pointers : pointersGood slots (h .next) ≡ true
   pub serial-below : h .serial < before
 
-pub header-facts : (h : List ℕ) (slots before : ℕ) → headerGood h slots before ≡ true → HeaderFacts (headerIn h slots before) slots before
+pub header-facts : (f : Form) (h : List ℕ) (slots before : ℕ) → headerGood f h slots before ≡ true
+    → HeaderFacts (headerIn f h slots before) slots before
 unfolding headerGood headerIn
-header-facts h slots before e =
+header-facts f h slots before d =
+    let e = and-right (formIn f h) _ d in
     let a = and-right (countsIn h) _ e in
     let b = and-right (spanIn h) _ a in
     record {
       counts = counts-facts _ _ _ _ (and-left (countsIn h) _ e);
       pointers = and-left _ _ b;
-      serial-below = ltb-true (numberAt h 0 4) before (and-right (pointersGood slots (pointersAt h 40)) _ b);
+      serial-below = ltb-true (numberAt h 0 4) before (and-right (pointersGood slots (pointersAt f h 40)) _ b);
     }
 
 -- each of good pointers, and the none behind them, is in its slots

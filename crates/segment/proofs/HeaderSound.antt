@@ -11,6 +11,8 @@ use lib.ListN.{length, getD, take, replicate}
 use borrow.Author.Tests.{lt-ltb, le-leb, eq-eqb, ltb-true, leb-true, eqb-true}
 use Rattle.lift.specs.Limits.{timeOk, timeLimit}
 use Rattle.bloom.specs.Pages.{sectionCount, fragmentLength}
+use Rattle.form.specs.declared.Form.{Form}
+use Rattle.form.specs.Forms.{serialWidth}
 use Rattle.skiplist.specs.declared.Pointer.{Pointer}
 use Rattle.skiplist.specs.Skip.{none, nodeOf, levelOf}
 use Rattle.skiplist.proofs.Pointers.{PointerFits}
@@ -67,9 +69,11 @@ good-node slots heads level e =
     good-append slots (take level heads) (replicate (4 - level) none) (good-take slots level heads e) (good-none slots (4 - level))
 
 -- a good pointer fits its bytes
-pub good-fits : (slots : ℕ) (p : Pointer) → slots ≤ 4096 → pointerGood slots p ≡ true → PointerFits p
+pub good-fits : (f : Form) (slots : ℕ) (p : Pointer) → slots ≤ 4096 → pointerGood slots p ≡ true → p .serial < 256 ^ serialWidth f
+    → PointerFits f p
 unfolding pointerGood
-good-fits slots p h e = record {
+good-fits f slots p h e n = record {
+  serial = n;
   slot =
       ⊎-elim
       (λ q. omega (arith, eqb-true (p .slot) 65535 q))
@@ -78,12 +82,12 @@ good-fits slots p h e = record {
   time = omega (arith, leb-true (p .time) timeLimit (and-left _ _ e));
 }
 
-heads-fit : (slots : ℕ) (ps : List Pointer) (k : ℕ) → slots ≤ 4096 → pointersGood slots ps ≡ true → k < length ps
-    → PointerFits (getD ps k none)
+heads-fit : (f : Form) (slots : ℕ) (ps : List Pointer) (k : ℕ) → slots ≤ 4096 → pointersGood slots ps ≡ true → k < length ps
+    → getD ps k none .serial < 256 ^ serialWidth f → PointerFits f (getD ps k none)
 unfolding pointersGood
-heads-fit slots [] k h e l = absurd (omega arith)
-heads-fit slots (p ∷ ps) zero h e l = good-fits slots p h (and-left _ _ e)
-heads-fit slots (p ∷ ps) (suc k) h e l = heads-fit slots ps k h (and-right (pointerGood slots p) _ e) (omega arith)
+heads-fit f slots [] k h e l n = absurd (omega arith)
+heads-fit f slots (p ∷ ps) zero h e l n = good-fits f slots p h (and-left _ _ e) n
+heads-fit f slots (p ∷ ps) (suc k) h e l n = heads-fit f slots ps k h (and-right (pointerGood slots p) _ e) (omega arith) n
 
 -- ---- counts and span
 
@@ -123,6 +127,7 @@ pub record Sound (c : Closing) (slots before : ℕ) : Type 0 where
   pub high-limit : c .high ≤ 150001
   pub heads-four : length (c .heads) ≡ 4
   pub heads-good : pointersGood slots (c .heads) ≡ true
+  pub serials-fit : (k : ℕ) → k < 4 → getD (c .heads) k none .serial < 256 ^ serialWidth (c .form)
 
 module _ (c : Closing) (slots before : ℕ) (s : Sound c slots before) where
   pub sound-numbers : NumbersFit c
@@ -140,10 +145,11 @@ module _ (c : Closing) (slots before : ℕ) (s : Sound c slots before) where
   pub sound-heads : HeadsFit c
   sound-heads = record {
     four = s .heads-four;
-    fit = λ k h. heads-fit slots (c .heads) k (s .slots-most) (s .heads-good) (omega (arith, s .heads-four));
+    fit = λ k h.
+        heads-fit (c .form) slots (c .heads) k (s .slots-most) (s .heads-good) (omega (arith, s .heads-four)) (s .serials-fit k h);
   }
 
-  pub header-decoded : headerIn (headerPage c) slots before ≡ headerOf c true
+  pub header-decoded : headerIn (c .form) (headerPage c) slots before ≡ headerOf c true
   header-decoded = header-read c slots before sound-numbers sound-heads ∙ rw (
     good-counts (c .count) (c .buckets) (s .some) (s .most) (s .buckets-some) (s .buckets-most),
     good-span (c .start) (c .end) (c .low) (c .high) (s .start-end) (s .end-limit) (s .low-limit) (s .low-high) (s .high-limit),

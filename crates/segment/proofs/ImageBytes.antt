@@ -15,6 +15,7 @@ use Rattle.bloom.specs.Pages.{sectionCount, sectionsFrom, bloomPage}
 use Rattle.bloom.proofs.Section.{Bytes}
 use Rattle.bloom.proofs.Fragments.{Length, fragment-length, page-bytes}
 use Rattle.bloom.proofs.Stored.{length-sectionsFrom, whole-section, last-section}
+use Rattle.form.specs.declared.Form.{Form}
 use Rattle.skiplist.specs.declared.Pointer.{Pointer}
 use Rattle.skiplist.specs.PointerBytes.{pointerBytes, pointersBytes}
 use Rattle.segment.specs.declared.Closing.{Closing}
@@ -63,19 +64,19 @@ number n v = record { all = bytes-below n v }
 
 -- ---- header, tree, Bloom
 
-pointers : (ps : List Pointer) → AreBytes (pointersBytes ps)
+pointers : (f : Form) (ps : List Pointer) → AreBytes (pointersBytes f ps)
 unfolding pointersBytes pointerBytes
-pointers [] = record { all = λ i. omega arith }
-pointers (p ∷ ps) = both (both (number 2 (p .slot)) (number 8 (p .time))) (pointers ps)
+pointers f [] = record { all = λ i. omega arith }
+pointers f (p ∷ ps) = both (both (number 2 (p .slot)) (both (number _ (p .serial)) (number 8 (p .time)))) (pointers f ps)
 
 pub bytes-header : (c : Closing) → Bytes (headerPage c)
 unfolding headerPage countBytes spanBytes
-bytes-header c = both counts (both span (both (pointers _) (repeats 432 0 (omega arith)))) .all
+bytes-header c = both counts (both span (both (pointers _ _) (repeats _ 0 (omega arith)))) .all
   where
-    counts : AreBytes (countBytes (c .serial) (c .count) (c .buckets))
+    counts : AreBytes (countBytes (c .form) (c .serial) (c .count) (c .buckets))
     counts =
         both (number 4 _) (both (number 2 _) (both (number 1 _) (both (number 1 _)
-        (both (number 1 _) (both (number 1 _) (repeats 6 0 (omega arith)))))))
+        (both (number 1 _) (both (number 1 _) (both (number 1 _) (repeats 5 0 (omega arith))))))))
 
     span : AreBytes (spanBytes (c .start) (c .end) (c .low) (c .high))
     span = both (number 8 _) (both (number 8 _) (both (number 4 _) (number 4 _)))

@@ -10,11 +10,12 @@ use borrow.Author.Tests.{lt-ltb, le-ltb, le-leb, lt-leb}
 use Rattle.codec.specs.Number.{numberAt}
 use Rattle.lift.specs.Limits.{timeOk, codeOk}
 use Rattle.bloom.specs.Pages.{sectionCount, fragmentLength}
+use Rattle.form.specs.declared.Form.{Form}
 use Rattle.skiplist.specs.declared.Pointer.{Pointer}
 use Rattle.skiplist.specs.Skip.{inSlots}
 use Rattle.skiplist.specs.PointerBytes.{pointersAt}
 use Rattle.segment.specs.declared.Header.{Header}
-use Rattle.segment.specs.Header.{countsGood, spanGood, pointerGood, pointersGood, countsIn, spanIn, headerGood, headerIn}
+use Rattle.segment.specs.Header.{countsGood, spanGood, pointerGood, pointersGood, formIn, countsIn, spanIn, headerGood, headerIn}
 use Rattle.segment.specs.Pages.{pageDue}
 
 -- ---- counts, span, pointers
@@ -61,11 +62,11 @@ pub four-read : (f : ℕ → ℕ → ℕ → ℕ → Bool) (r : Bool) (a b c d a
 four-read f r a b c d a' b' c' d' ea eb ec ed e = rw (← ea, ← eb, ← ec, ← ed) e
 
 -- the header that was read
-pub header-made : (h : List ℕ) (slots before serial count buckets start low high : ℕ) (next : List Pointer) (a b d : Bool)
-    → serial ≡ numberAt h 0 4 → next ≡ pointersAt h 40 → a ≡ countsIn h → b ≡ spanIn h → d ≡ pointersGood slots next
+pub header-made : (f : Form) (h : List ℕ) (slots before serial count buckets start low high : ℕ) (next : List Pointer) (o a b d : Bool)
+    → o ≡ formIn f h → serial ≡ numberAt h 0 4 → next ≡ pointersAt f h 40 → a ≡ countsIn h → b ≡ spanIn h → d ≡ pointersGood slots next
     → count ≡ numberAt h 4 2 → buckets ≡ numberAt h 6 1 → start ≡ numberAt h 16 8 → low ≡ numberAt h 32 4 → high ≡ numberAt h 36 4
     → _≡_ {A = Header} (record {
-      good = a && (b && (d && ltb serial before));
+      good = o && (a && (b && (d && ltb serial before)));
       serial = serial;
       count = count;
       buckets = buckets;
@@ -73,10 +74,10 @@ pub header-made : (h : List ℕ) (slots before serial count buckets start low hi
       low = low;
       high = high;
       next = next;
-    }) (headerIn h slots before)
+    }) (headerIn f h slots before)
 unfolding headerIn headerGood
-header-made h slots before serial count buckets start low high next a b d e1 e2 e3 e4 e5 e6 e7 e8 e9 e10 =
-    rw (e5, e3, e4, e1, e2, e6, e7, e8, e9, e10)
+header-made f h slots before serial count buckets start low high next o a b d e0 e1 e2 e3 e4 e5 e6 e7 e8 e9 e10 =
+    rw (e0, e5, e3, e4, e1, e2, e6, e7, e8, e9, e10)
 
 -- ---- the pages that are due
 

@@ -1,23 +1,30 @@
 -- The header page of a closed segment (document 01, "Bloom and skip list"; damage: "Search", second paragraph). Assumes nothing.
 use mathlib.Core.Bool.{Bool, true, _&&_}
 use mathlib.Core.List.{List, [], _∷_, _++_}
-use Prim.Native.Nat.{ℕ, _+_}
+use Prim.Native.Nat.{ℕ, _+_, _-_, _*_}
 use lib.Dec.{eqb, leb, ltb}
 use Rattle.codec.specs.Area.{repeated}
 use Rattle.codec.specs.Number.{bytes, numberAt}
 use Rattle.lift.specs.Limits.{timeOk, codeOk}
 use Rattle.bloom.specs.Pages.{sectionCount, fragmentLength}
+use Rattle.form.specs.declared.Form.{Form}
+use Rattle.form.specs.declared.Form.the-variants.{Old, New}
+use Rattle.form.specs.Forms.{byteTen, serialWidth}
 use Rattle.skiplist.specs.declared.Pointer.{Pointer}
 use Rattle.skiplist.specs.Skip.{inSlots, levelOf, nodeOf}
 use Rattle.skiplist.specs.PointerBytes.{pointersBytes, pointersAt}
 use Rattle.segment.specs.declared.Closing.{Closing}
 use Rattle.segment.specs.declared.Header.{Header}
 
--- "serial 4, count 2, buckets, sections, L, level 1 each, six zeros"
-unfoldable pub countBytes : ℕ → ℕ → ℕ → List ℕ
-countBytes serial count buckets =
+-- byte 10 is the form's, then five zeros
+abbrev pub formBytes : Form → List ℕ
+formBytes f = bytes 1 (byteTen f) ++ repeated 5 0
+
+-- "serial 4, count 2, buckets, sections, L, level 1 each, six zeros", the first of these by the form
+unfoldable pub countBytes : Form → ℕ → ℕ → ℕ → List ℕ
+countBytes f serial count buckets =
     bytes 4 serial ++ (bytes 2 count ++ (bytes 1 buckets ++ (bytes 1 (sectionCount count)
-    ++ (bytes 1 (fragmentLength (sectionCount count)) ++ (bytes 1 (levelOf serial) ++ repeated 6 0)))))
+    ++ (bytes 1 (fragmentLength (sectionCount count)) ++ (bytes 1 (levelOf serial) ++ formBytes f)))))
 
 -- "start and end time 8 each, low and high load 4 each"
 unfoldable pub spanBytes : ℕ → ℕ → ℕ → ℕ → List ℕ
@@ -26,8 +33,8 @@ spanBytes start end low high = bytes 8 start ++ (bytes 8 end ++ (bytes 4 low ++ 
 -- the header page: "four pointers, zeros"
 unfoldable pub headerPage : Closing → List ℕ
 headerPage c =
-    countBytes (c .serial) (c .count) (c .buckets) ++ (spanBytes (c .start) (c .end) (c .low) (c .high)
-    ++ (pointersBytes (nodeOf (c .heads) (levelOf (c .serial))) ++ repeated 432 0))
+    countBytes (c .form) (c .serial) (c .count) (c .buckets) ++ (spanBytes (c .start) (c .end) (c .low) (c .high)
+    ++ (pointersBytes (c .form) (nodeOf (c .heads) (levelOf (c .serial))) ++ repeated (432 - 4 * serialWidth (c .form)) 0))
 
 -- count 1 to 320, buckets 1 to 36, sections and L as the count gives
 unfoldable pub countsGood : ℕ → ℕ → ℕ → ℕ → Bool
@@ -47,6 +54,11 @@ unfoldable pub pointersGood : ℕ → List Pointer → Bool
 pointersGood slots [] = true
 pointersGood slots (p ∷ ps) = pointerGood slots p && pointersGood slots ps
 
+-- byte 10 of the header page h: form 0 leaves it unchecked; in form 1 "any other byte 10 counts as damage"
+abbrev pub formIn : Form → List ℕ → Bool
+formIn Old h = true
+formIn New h = eqb (numberAt h 10 1) 1
+
 -- the counts, and the span, of the header page h
 abbrev pub countsIn : List ℕ → Bool
 countsIn h = countsGood (numberAt h 4 2) (numberAt h 6 1) (numberAt h 7 1) (numberAt h 8 1)
@@ -55,18 +67,19 @@ abbrev pub spanIn : List ℕ → Bool
 spanIn h = spanGood (numberAt h 16 8) (numberAt h 24 8) (numberAt h 32 4) (numberAt h 36 4)
 
 -- no damage in the header page h; its serial is below the one before
-unfoldable pub headerGood : List ℕ → ℕ → ℕ → Bool
-headerGood h slots before = countsIn h && (spanIn h && (pointersGood slots (pointersAt h 40) && ltb (numberAt h 0 4) before))
+unfoldable pub headerGood : Form → List ℕ → ℕ → ℕ → Bool
+headerGood f h slots before =
+    formIn f h && (countsIn h && (spanIn h && (pointersGood slots (pointersAt f h 40) && ltb (numberAt h 0 4) before)))
 
 -- the header as read
-unfoldable pub headerIn : List ℕ → ℕ → ℕ → Header
-headerIn h slots before = record {
-  good = headerGood h slots before;
+unfoldable pub headerIn : Form → List ℕ → ℕ → ℕ → Header
+headerIn f h slots before = record {
+  good = headerGood f h slots before;
   serial = numberAt h 0 4;
   count = numberAt h 4 2;
   buckets = numberAt h 6 1;
   start = numberAt h 16 8;
   low = numberAt h 32 4;
   high = numberAt h 36 4;
-  next = pointersAt h 40;
+  next = pointersAt f h 40;
 }

@@ -1,14 +1,15 @@
 // A closed segment (document 01, "Segments", "Bloom and skip list"): its header page, and the pages that a close programs.
 use flash::PAGE_BYTES;
 use flash::Page;
+use form::Form;
 use skiplist::Pointer;
 ghost use mathlib.Core.Path.{_≡_};
 ghost use mathlib.Core.Bool.{true};
 ghost use Prim.Native.Nat.{_+_, _*_, _≤_, _<_, min};
 ghost use lib.ListN.{length};
 ghost use Rattle.codec.specs.Area.{splice, repeated};
-ghost use Rattle.segment.specs.Header.{countBytes, spanBytes, headerPage, countsGood, spanGood, pointerGood, pointersGood};
-ghost use Rattle.segment.specs.Header.{countsIn, spanIn, headerIn};
+ghost use Rattle.segment.specs.Header.{formBytes, countBytes, spanBytes, headerPage};
+ghost use Rattle.segment.specs.Header.{countsGood, spanGood, pointerGood, pointersGood, formIn, countsIn, spanIn, headerIn};
 ghost use Rattle.segment.specs.Pages.{pageDue, treePage, closePage, pageReady, pageProgrammed, closeErased, closeProgrammed};
 
 // A segment has up to 320 lifts and up to 36 buckets.
@@ -44,6 +45,7 @@ pub struct Header {
 
 // All that a close needs of the state.
 pub struct Closing {
+    pub form: Form,
     pub serial: u32,
     pub count: u16,
     pub buckets: u8,
@@ -117,17 +119,28 @@ fn span_in(h: &[u8]) -> bool
     span_good(start, end, low, high)
 }
 
-// The header page h; its serial is to be below `before`.
-pub fn header_in(h: &[u8], slots: u64, before: u32) -> Header
-    requires { ⌜ length (now h) ≡ 512 ⌝ }
-    ensures { λ r. ⌜ r ≡ headerIn (now (h .entry)) slots before ⌝ }
+fn form_in(h: &[u8], form: Form) -> bool
+    requires { ⌜ 16 ≤ length (now h) ⌝ }
+    ensures { λ r. ⌜ r ≡ formIn form (now (h .entry)) ⌝ }
 {
+    match form {
+        Form::Old => true,
+        Form::New => codec::get_u8(h, 10) == 1,
+    }
+}
+
+// The header page h; its serial is to be below `before`.
+pub fn header_in(h: &[u8], form: Form, slots: u64, before: u32) -> Header
+    requires { ⌜ length (now h) ≡ 512 ⌝ }
+    ensures { λ r. ⌜ r ≡ headerIn form (now (h .entry)) slots before ⌝ }
+{
+    let own = form_in(h, form);
     let serial = codec::get_u32(h, 0);
-    let next = skiplist::pointers_at(h, POINTERS_AT);
+    let next = skiplist::pointers_at(h, POINTERS_AT, form);
     let counts = counts_in(h);
     let span = span_in(h);
     let pointers = pointers_good(next, slots);
-    let good = counts & (span & (pointers & (serial < before)));
+    let good = own & (counts & (span & (pointers & (serial < before))));
     Header {
         good: good,
         serial: serial,
@@ -152,9 +165,17 @@ fn ones() -> [u8; 512]
     [255u8; 512]
 }
 
-fn put_counts(h: &mut [u8], serial: u32, count: u16, buckets: u8)
+fn put_form(h: &mut [u8], form: Form)
+    requires { ⌜ 16 ≤ length (now h) ⌝ }
+    ensures { λ _. ⌜ now (h .exit) ≡ splice (now (h .entry)) 10 (formBytes form) ⌝ }
+{
+    codec::put_u8(h, 10, form::byte_ten(form));
+    codec::fill(h, 11, 5, 0);
+}
+
+fn put_counts(h: &mut [u8], form: Form, serial: u32, count: u16, buckets: u8)
     requires { ⌜ (16 ≤ length (now h)) × (1 ≤ count) × (count ≤ 320) ⌝ }
-    ensures { λ _. ⌜ now (h .exit) ≡ splice (now (h .entry)) 0 (countBytes serial count buckets) ⌝ }
+    ensures { λ _. ⌜ now (h .exit) ≡ splice (now (h .entry)) 0 (countBytes form serial count buckets) ⌝ }
 {
     let sections = bloom::sections_of(count);
     let fragment = bloom::fragment_of(sections);
@@ -165,7 +186,7 @@ fn put_counts(h: &mut [u8], serial: u32, count: u16, buckets: u8)
     codec::put_u8(h, 7, sections as u8);
     codec::put_u8(h, 8, fragment as u8);
     codec::put_u8(h, 9, level as u8);
-    codec::fill(h, 10, 6, 0);
+    put_form(h, form);
 }
 
 fn put_span(h: &mut [u8], start: u64, end: u64, low: u32, high: u32)
@@ -187,10 +208,11 @@ pub fn header_page(c: Closing) -> [u8; 512]
     let serial = c.serial;
     let level = skiplist::level_of(serial);
     let node = skiplist::node_of(heads, level);
+    let form = c.form;
     let mut h = zeros();
-    put_counts(&mut h, serial, c.count, c.buckets);
+    put_counts(&mut h, form, serial, c.count, c.buckets);
     put_span(&mut h, c.start, c.end, c.low, c.high);
-    skiplist::put_pointers(&mut h, POINTERS_AT, node);
+    skiplist::put_pointers(&mut h, POINTERS_AT, node, form);
     h
 }
 

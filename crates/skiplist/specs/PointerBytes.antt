@@ -1,23 +1,27 @@
--- A pointer in bytes (document 01): slot (2), start time (8). Assumes nothing.
+-- A pointer in bytes (document 01; document 02, W-202): slot (2), in form 1 serial (4), start time (8). Assumes nothing.
 use mathlib.Core.List.{List, [], _∷_, _++_}
-use Prim.Native.Nat.{ℕ, _+_}
+use Prim.Native.Nat.{ℕ, _+_, _*_}
 use Rattle.codec.specs.Number.{bytes, numberAt}
+use Rattle.form.specs.declared.Form.{Form}
+use Rattle.form.specs.Forms.{serialWidth, pointerWidth}
 use Rattle.skiplist.specs.declared.Pointer.{Pointer}
 use Rattle.skiplist.specs.Skip.{pointer}
 
--- the ten bytes of a pointer
-unfoldable pub pointerBytes : Pointer → List ℕ
-pointerBytes p = bytes 2 (p .slot) ++ bytes 8 (p .time)
+-- the bytes of a pointer
+unfoldable pub pointerBytes : Form → Pointer → List ℕ
+pointerBytes f p = bytes 2 (p .slot) ++ (bytes (serialWidth f) (p .serial) ++ bytes 8 (p .time))
 
 -- pointers side by side
-unfoldable pub pointersBytes : List Pointer → List ℕ
-pointersBytes [] = []
-pointersBytes (p ∷ ps) = pointerBytes p ++ pointersBytes ps
+unfoldable pub pointersBytes : Form → List Pointer → List ℕ
+pointersBytes f [] = []
+pointersBytes f (p ∷ ps) = pointerBytes f p ++ pointersBytes f ps
 
--- the pointer in the ten bytes from `at`
-unfoldable pub pointerAt : List ℕ → ℕ → Pointer
-pointerAt s at = pointer (numberAt s at 2) (numberAt s (at + 2) 8)
+-- the pointer in the bytes from `at`
+unfoldable pub pointerAt : Form → List ℕ → ℕ → Pointer
+pointerAt f s at = pointer (numberAt s at 2) (numberAt s (at + 2) (serialWidth f)) (numberAt s (at + 2 + serialWidth f) 8)
 
 -- the four pointers side by side from `at`
-unfoldable pub pointersAt : List ℕ → ℕ → List Pointer
-pointersAt s at = pointerAt s at ∷ pointerAt s (at + 10) ∷ pointerAt s (at + 20) ∷ pointerAt s (at + 30) ∷ []
+unfoldable pub pointersAt : Form → List ℕ → ℕ → List Pointer
+pointersAt f s at =
+    pointerAt f s at ∷ pointerAt f s (at + pointerWidth f) ∷ pointerAt f s (at + 2 * pointerWidth f)
+    ∷ pointerAt f s (at + 3 * pointerWidth f) ∷ []

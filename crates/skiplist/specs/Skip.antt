@@ -5,23 +5,44 @@ use Prim.Native.Nat.{ℕ, _+_, _-_, min}
 use lib.Count.{trailingZeros}
 use lib.Dec.{eqb, leb, ltb}
 use lib.ListN.{take, drop, replicate}
+use Rattle.form.specs.declared.Form.{Form}
+use Rattle.form.specs.declared.Form.the-variants.{Old, New}
+use Rattle.form.specs.Forms.{serialIn}
 use Rattle.skiplist.specs.declared.Pointer.{Pointer}
 
--- a pointer is slot and start time
-abbrev pub pointer : ℕ → ℕ → Pointer
-pointer slot time = record { slot = slot; time = time }
+-- a pointer is slot, serial and start time
+abbrev pub pointer : ℕ → ℕ → ℕ → Pointer
+pointer slot serial time = record { slot = slot; serial = serial; time = time }
 
--- none is slot 65,535, time 0
+-- the pointer to the segment of a serial; form 0 leaves the serial out
+abbrev pub pointing : Form → ℕ → ℕ → ℕ → Pointer
+pointing f slot serial time = pointer slot (serialIn f serial) time
+
+-- none is slot 65,535, serial 0, time 0
 abbrev pub none : Pointer
-none = pointer 65535 0
+none = pointer 65535 0 0
 
 -- a pointer is none by its slot alone
 abbrev pub isNone : Pointer → Bool
 isNone p = eqb (p .slot) 65535
 
--- live: it isn't none and its time is at least the oldest live time
-abbrev pub isLive : Pointer → ℕ → Bool
-isLive p oldest = not (isNone p) && leb oldest (p .time)
+-- what liveness goes by: the start time in form 0, the serial in form 1
+abbrev pub ageOf : Form → Pointer → ℕ
+ageOf Old p = p .time
+ageOf New p = p .serial
+
+-- what a pointer's liveness is judged by: the form, and the oldest live time or the oldest retained serial
+pub record Live : Type 0 where
+  pub form : Form
+  pub oldest : ℕ
+
+-- in form 1
+abbrev pub serialsFrom : ℕ → Live
+serialsFrom oldest = record { form = New; oldest = oldest }
+
+-- live: it isn't none and its time (form 0) or its serial (form 1) is at least the oldest
+abbrev pub isLive : Pointer → Live → Bool
+isLive p live = not (isNone p) && leb (live .oldest) (ageOf (live .form) p)
 
 -- its slot is below S, or 65,535 for none
 abbrev pub inSlots : Pointer → ℕ → Bool

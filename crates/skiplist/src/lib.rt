@@ -1,31 +1,34 @@
-// Skip pointers: the slot and the start time of a closed segment (document 01, "Bloom and skip list").
+// Skip pointers: the slot, the serial and the start time of a closed segment (document 01, "Bloom and skip list").
+use form::Form;
 ghost use mathlib.Core.Path.{_≡_};
 ghost use mathlib.Core.Bool.{_&&_};
-ghost use Prim.Native.Nat.{ℕ, _+_, _≤_, _<_};
+ghost use Prim.Native.Nat.{ℕ, _+_, _*_, _≤_, _<_};
 ghost use lib.ListN.{length, getD, replicate};
 ghost use Rattle.codec.specs.Area.{splice};
-ghost use Rattle.skiplist.specs.Skip.{pointer, none, isNone, isLive, inSlots, levelOf, nodeOf, headsAfter};
+ghost use Rattle.form.specs.Forms.{pointerWidth};
+ghost use Rattle.form.specs.declared.Form.the-variants.{Old, New};
+ghost use Rattle.skiplist.specs.Skip.{pointer, none, isNone, serialsFrom, isLive, inSlots, levelOf, nodeOf, headsAfter};
 ghost use Rattle.skiplist.specs.PointerBytes.{pointerBytes, pointersBytes, pointerAt, pointersAt};
-
-// A pointer in bytes: slot 2, start time 8.
-pub const POINTER_BYTES: usize = 10;
 
 pub struct Pointer {
     pub slot: u16,
+    pub serial: u32,
     pub time: u64,
 }
 
 impl Pointer {
     pub const NONE: Pointer = Pointer {
         slot: 65535,
+        serial: 0,
         time: 0,
     };
 
-    pub fn new(slot: u16, time: u64) -> Pointer
-        ensures { λ r. ⌜ r ≡ pointer slot time ⌝ }
+    pub fn new(slot: u16, serial: u32, time: u64) -> Pointer
+        ensures { λ r. ⌜ r ≡ pointer slot serial time ⌝ }
     {
         Pointer {
             slot: slot,
+            serial: serial,
             time: time,
         }
     }
@@ -36,11 +39,11 @@ impl Pointer {
         self.slot == 65535
     }
 
-    // Live: not none, and its time not before the oldest live time.
-    pub fn is_live(self, oldest: u64) -> bool
-        ensures { λ r. ⌜ r ≡ isLive self oldest ⌝ }
+    // Live: not none, and its serial not below the oldest retained one.
+    pub fn is_live(self, oldest: u32) -> bool
+        ensures { λ r. ⌜ r ≡ isLive self (serialsFrom oldest) ⌝ }
     {
-        !(self.slot == 65535) & (oldest <= self.time)
+        !(self.slot == 65535) & (oldest <= self.serial)
     }
 
     // Its slot is below S, or it is none.
@@ -94,40 +97,81 @@ pub fn heads_after(heads: [Pointer; 4], level: usize, p: Pointer) -> [Pointer; 4
     n
 }
 
-pub fn pointer_at(s: &[u8], at: usize) -> Pointer
+pub fn pointer_at(s: &[u8], at: usize, form: Form) -> Pointer
+    requires { ⌜ at + pointerWidth form ≤ length (now s) ⌝ }
+    ensures { λ r. ⌜ r ≡ pointerAt form (now (s .entry)) at ⌝ }
+{
+    match form {
+        Form::Old => old_pointer_at(s, at),
+        Form::New => new_pointer_at(s, at),
+    }
+}
+
+fn old_pointer_at(s: &[u8], at: usize) -> Pointer
     requires { ⌜ at + 10 ≤ length (now s) ⌝ }
-    ensures { λ r. ⌜ r ≡ pointerAt (now (s .entry)) at ⌝ }
+    ensures { λ r. ⌜ r ≡ pointerAt Old (now (s .entry)) at ⌝ }
 {
     let slot = codec::get_u16(s, at);
     let time = codec::get_u64(s, at + 2);
-    Pointer::new(slot, time)
+    Pointer::new(slot, 0, time)
 }
 
-pub fn pointers_at(s: &[u8], at: usize) -> [Pointer; 4]
-    requires { ⌜ at + 40 ≤ length (now s) ⌝ }
-    ensures { λ r. ⌜ r ≡ pointersAt (now (s .entry)) at ⌝ }
+fn new_pointer_at(s: &[u8], at: usize) -> Pointer
+    requires { ⌜ at + 14 ≤ length (now s) ⌝ }
+    ensures { λ r. ⌜ r ≡ pointerAt New (now (s .entry)) at ⌝ }
 {
-    let a = pointer_at(s, at);
-    let b = pointer_at(s, at + 10);
-    let c = pointer_at(s, at + 20);
-    let d = pointer_at(s, at + 30);
+    let slot = codec::get_u16(s, at);
+    let serial = codec::get_u32(s, at + 2);
+    let time = codec::get_u64(s, at + 6);
+    Pointer::new(slot, serial, time)
+}
+
+pub fn pointers_at(s: &[u8], at: usize, form: Form) -> [Pointer; 4]
+    requires { ⌜ at + 4 * pointerWidth form ≤ length (now s) ⌝ }
+    ensures { λ r. ⌜ r ≡ pointersAt form (now (s .entry)) at ⌝ }
+{
+    let n = form::pointer_bytes(form);
+    let a = pointer_at(s, at, form);
+    let b = pointer_at(s, at + n, form);
+    let c = pointer_at(s, at + 2 * n, form);
+    let d = pointer_at(s, at + 3 * n, form);
     [a, b, c, d]
 }
 
-pub fn put_pointer(s: &mut [u8], at: usize, p: Pointer)
+pub fn put_pointer(s: &mut [u8], at: usize, p: Pointer, form: Form)
+    requires { ⌜ at + pointerWidth form ≤ length (now s) ⌝ }
+    ensures { λ _. ⌜ now (s .exit) ≡ splice (now (s .entry)) at (pointerBytes form p) ⌝ }
+{
+    match form {
+        Form::Old => put_old_pointer(s, at, p),
+        Form::New => put_new_pointer(s, at, p),
+    }
+}
+
+fn put_old_pointer(s: &mut [u8], at: usize, p: Pointer)
     requires { ⌜ at + 10 ≤ length (now s) ⌝ }
-    ensures { λ _. ⌜ now (s .exit) ≡ splice (now (s .entry)) at (pointerBytes p) ⌝ }
+    ensures { λ _. ⌜ now (s .exit) ≡ splice (now (s .entry)) at (pointerBytes Old p) ⌝ }
 {
     codec::put_u16(s, at, p.slot);
     codec::put_u64(s, at + 2, p.time);
 }
 
-pub fn put_pointers(s: &mut [u8], at: usize, p: [Pointer; 4])
-    requires { ⌜ at + 40 ≤ length (now s) ⌝ }
-    ensures { λ _. ⌜ now (s .exit) ≡ splice (now (s .entry)) at (pointersBytes p) ⌝ }
+fn put_new_pointer(s: &mut [u8], at: usize, p: Pointer)
+    requires { ⌜ at + 14 ≤ length (now s) ⌝ }
+    ensures { λ _. ⌜ now (s .exit) ≡ splice (now (s .entry)) at (pointerBytes New p) ⌝ }
 {
-    put_pointer(s, at, p[0]);
-    put_pointer(s, at + 10, p[1]);
-    put_pointer(s, at + 20, p[2]);
-    put_pointer(s, at + 30, p[3]);
+    codec::put_u16(s, at, p.slot);
+    codec::put_u32(s, at + 2, p.serial);
+    codec::put_u64(s, at + 6, p.time);
+}
+
+pub fn put_pointers(s: &mut [u8], at: usize, p: [Pointer; 4], form: Form)
+    requires { ⌜ at + 4 * pointerWidth form ≤ length (now s) ⌝ }
+    ensures { λ _. ⌜ now (s .exit) ≡ splice (now (s .entry)) at (pointersBytes form p) ⌝ }
+{
+    let n = form::pointer_bytes(form);
+    put_pointer(s, at, p[0], form);
+    put_pointer(s, at + n, p[1], form);
+    put_pointer(s, at + 2 * n, p[2], form);
+    put_pointer(s, at + 3 * n, p[3], form);
 }

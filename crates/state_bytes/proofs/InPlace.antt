@@ -1,8 +1,8 @@
 -- A lift written straight into the area gives the bytes of the state with the lift: its record lies inside the page buffer, and the
 -- other fields are computed from those read. Assumes nothing.
-use mathlib.Core.Path.{_≡_, refl, sym, ap, _∙_}
+use mathlib.Core.Path.{_≡_, sym, ap, _∙_}
 use mathlib.Core.Logic.{⊎-elim}
-use mathlib.Core.Bool.{cond, _&&_}
+use mathlib.Core.Bool.{cond}
 use mathlib.Core.List.{List}
 use Prim.Native.Nat.{ℕ, _+_, _*_, _%_, _≤_, _<_}
 use native.Mathlib.Omega.{arith}
@@ -17,6 +17,7 @@ use Rattle.lift.specs.Record.{recordBytes}
 use Rattle.lift.proofs.Records.{length-record}
 use Rattle.bloom.specs.Bloom.{noted}
 use Rattle.bounds.specs.Lifts.{pushed, lowWith, highWith}
+use Rattle.form.specs.declared.Form.the-variants.{New}
 use Rattle.skiplist.specs.declared.Pointer.{Pointer}
 use Rattle.skiplist.specs.PointerBytes.{pointersAt}
 use Rattle.store.specs.declared.State.{State}
@@ -50,42 +51,40 @@ module _ (b : List ℕ) (time : ℕ) (load : ℤ) (buckets : ℕ) (page section 
   abbrev given : State
   given = stateGiven (stateIn b) time load buckets page section
 
-  pub counters-made : (oldest current count live after : ℕ) → oldest ≡ numberAt b 0 4 → current ≡ numberAt b 4 4
-      → count ≡ numberAt b 8 2 → live ≡ numberAt b 19 8 → after ≡ cond (eqb count 0 && eqb oldest current) time live
+  pub counters-made : (oldest current count : ℕ) → oldest ≡ numberAt b 0 4 → current ≡ numberAt b 4 4 → count ≡ numberAt b 8 2
       → _≡_ {A = Counters} (record {
         oldest = oldest;
         current = current;
         count = count + 1;
         buckets = buckets;
-        next = time + 1;
-        live = after;
+        next = time;
       }) (countersOf given)
   unfolding stateIn stateGiven
-  counters-made oldest current count live after e1 e2 e3 e4 e5 = rw (e5, ← e1, ← e2, ← e3, ← e4)
+  counters-made oldest current count e1 e2 e3 = rw (← e1, ← e2, ← e3)
 
-  pub span-made : (count start first : ℕ) (low high lowest highest : ℤ) → count ≡ numberAt b 8 2 → start ≡ numberAt b 759 8
-      → low ≡ loadAt b 767 → high ≡ loadAt b 771 → first ≡ cond (eqb count 0) time start → lowest ≡ lowWith count low load
+  pub span-made : (count start first : ℕ) (low high lowest highest : ℤ) → count ≡ numberAt b 8 2 → start ≡ numberAt b 767 8
+      → low ≡ loadAt b 775 → high ≡ loadAt b 779 → first ≡ cond (eqb count 0) time start → lowest ≡ lowWith count low load
       → highest ≡ highWith count high load
       → _≡_ {A = Span} (record { start = first; low = lowest; high = highest }) (spanOf given)
   unfolding stateIn stateGiven
   span-made count start first low high lowest highest e1 e2 e3 e4 e5 e6 e7 = rw (e5, e6, e7, ← e1, ← e2, ← e3, ← e4)
 
 pub lift-made : (b b1 b2 : List ℕ) (time code : ℕ) (load : ℤ) (note : List ℕ) (buckets n : ℕ) (c : Counters) (heads : List Pointer)
-    (loads : List ℤ) (section : List ℕ) (span : Span) → length b ≡ 775 → length note ≡ 20 → n ≡ numberAt b 8 2
-    → heads ≡ pointersAt b 27 → loads ≡ pushed (loadsAt b 67 13) n load → section ≡ noted (part b 631 128) code
+    (loads : List ℤ) (section : List ℕ) (span : Span) → length b ≡ 783 → length note ≡ 20 → n ≡ numberAt b 8 2
+    → heads ≡ pointersAt New b 19 → loads ≡ pushed (loadsAt b 75 13) n load → section ≡ noted (part b 639 128) code
     → ((page s : List ℕ) → c ≡ countersOf (stateGiven (stateIn b) time load buckets page s))
     → ((page s : List ℕ) → span ≡ spanOf (stateGiven (stateIn b) time load buckets page s))
-    → b1 ≡ splice b (119 + n % 16 * 32) (recordBytes time code note)
-    → b2 ≡ fieldsBytes c heads loads (part b1 119 512) section span
+    → b1 ≡ splice b (127 + n % 16 * 32) (recordBytes time code note)
+    → b2 ≡ fieldsBytes c heads loads (part b1 127 512) section span
     → b2 ≡ stateBytes (withLift (stateIn b) time code load note buckets)
 unfolding stateIn stateGiven withLift
 lift-made b b1 b2 time code load note buckets n c heads loads section span l ln en eh el eb ec es e1 e2 =
     let R = recordBytes time code note in
     let lr : length R ≡ 32 = length-record time code note ln in
     let t : State = withLift (stateIn b) time code load note buckets in
-    let p : part b1 119 512 ≡ splice (part b 119 512) (n % 16 * 32) R =
-    ap (λ u. part u 119 512) e1 ∙ part-with b 119 512 (n % 16 * 32) R (omega arith) (omega arith) in
-    let pn : part b1 119 512 ≡ t .page = p ∙ ap (λ (m : ℕ). splice (part b 119 512) (m % 16 * 32) R) en in
-    let ln : loads ≡ t .loads = el ∙ ap (λ (m : ℕ). pushed (loadsAt b 67 13) m load) en in
-    e2 ∙ same-fields c (countersOf t) heads (t .heads) loads (t .loads) (part b1 119 512) (t .page) section (t .bloom) span (spanOf t)
+    let p : part b1 127 512 ≡ splice (part b 127 512) (n % 16 * 32) R =
+    ap (λ u. part u 127 512) e1 ∙ part-with b 127 512 (n % 16 * 32) R (omega arith) (omega arith) in
+    let pn : part b1 127 512 ≡ t .page = p ∙ ap (λ (m : ℕ). splice (part b 127 512) (m % 16 * 32) R) en in
+    let ln : loads ≡ t .loads = el ∙ ap (λ (m : ℕ). pushed (loadsAt b 75 13) m load) en in
+    e2 ∙ same-fields c (countersOf t) heads (t .heads) loads (t .loads) (part b1 127 512) (t .page) section (t .bloom) span (spanOf t)
     (ec (t .page) (t .bloom)) eh ln pn eb (es (t .page) (t .bloom)) ∙ fields-flat t

@@ -1,7 +1,7 @@
 -- The state is read from its bytes field by field, and read back from what was written. Assumes nothing.
 use mathlib.Core.Path.{_≡_, refl, sym, ap, ap₂, _∙_}
 use mathlib.Core.List.{List, [], _∷_, _++_, append-nil, append-assoc}
-use Prim.Native.Nat.{ℕ, zero, suc, _+_, _*_, _^_, _≤_, _<_}
+use Prim.Native.Nat.{ℕ, suc, _+_, _*_, _^_, _≤_, _<_}
 use native.Mathlib.Omega.{arith}
 use lib.IntN.{ℤ, pos}
 use lib.ListN.{length, getD, length-append}
@@ -10,6 +10,7 @@ use Rattle.codec.specs.Area.{part}
 use Rattle.codec.specs.Number.{le, bytes, numberAt}
 use Rattle.codec.proofs.Areas.{part-part, part-append-left, part-append-right, part-all}
 use Rattle.codec.proofs.Numbers.{length-bytes, le-bytes}
+use Rattle.form.specs.declared.Form.the-variants.{New}
 use Rattle.skiplist.specs.declared.Pointer.{Pointer}
 use Rattle.skiplist.specs.PointerBytes.{pointersBytes, pointersAt}
 use Rattle.skiplist.proofs.Pointers.{PointerFits, pointers-decoded, length-pointers}
@@ -22,12 +23,12 @@ use Rattle.state_bytes.proofs.Writing.{length-load, length-loads}
 
 -- a state whose every field is what stands in the area
 pub read : (b : List ℕ) (s : State) → s .oldest ≡ numberAt b 0 4 → s .current ≡ numberAt b 4 4 → s .count ≡ numberAt b 8 2
-    → s .buckets ≡ numberAt b 10 1 → s .next ≡ numberAt b 11 8 → s .live ≡ numberAt b 19 8 → s .heads ≡ pointersAt b 27
-    → s .loads ≡ loadsAt b 67 13 → s .page ≡ part b 119 512 → s .bloom ≡ part b 631 128 → s .start ≡ numberAt b 759 8
-    → s .low ≡ loadAt b 767 → s .high ≡ loadAt b 771 → s ≡ stateIn b
+    → s .buckets ≡ numberAt b 10 1 → s .next ≡ numberAt b 11 8 → s .heads ≡ pointersAt New b 19 → s .loads ≡ loadsAt b 75 13
+    → s .page ≡ part b 127 512 → s .bloom ≡ part b 639 128 → s .start ≡ numberAt b 767 8 → s .low ≡ loadAt b 775
+    → s .high ≡ loadAt b 779 → s ≡ stateIn b
 unfolding stateIn
-read b s e1 e2 e3 e4 e5 e6 e7 e8 e9 e10 e11 e12 e13 =
-    rw (← e1, ← e2, ← e3, ← e4, ← e5, ← e6, ← e7, ← e8, ← e9, ← e10, ← e11, ← e12, ← e13)
+read b s e1 e2 e3 e4 e5 e6 e7 e8 e9 e10 e11 e12 =
+    rw (← e1, ← e2, ← e3, ← e4, ← e5, ← e6, ← e7, ← e8, ← e9, ← e10, ← e11, ← e12)
 
 -- ---- loads side by side
 
@@ -66,9 +67,8 @@ pub record Held (s : State) (a b c d : Pointer) : Type 0 where
   pub count : s .count < 256 ^ 2
   pub buckets : s .buckets < 256 ^ 1
   pub next : s .next < 256 ^ 8
-  pub live : s .live < 256 ^ 8
   pub heads : s .heads ≡ a ∷ b ∷ c ∷ d ∷ []
-  pub head-fits : PointerFits a × PointerFits b × PointerFits c × PointerFits d
+  pub head-fits : PointerFits New a × PointerFits New b × PointerFits New c × PointerFits New d
   pub loads : length (s .loads) ≡ 13
   pub load-fits : (i : ℕ) → mag (getD (s .loads) i (pos 0)) < 2 ^ 31
   pub page : length (s .page) ≡ 512
@@ -80,8 +80,8 @@ pub record Held (s : State) (a b c d : Pointer) : Type 0 where
 module _ (s : State) (a b c d : Pointer) (h : Held s a b c d) where
   abbrev fields : List (List ℕ)
   fields =
-      bytes 4 (s .oldest) ∷ bytes 4 (s .current) ∷ bytes 2 (s .count) ∷ bytes 1 (s .buckets) ∷ bytes 8 (s .next) ∷ bytes 8 (s .live)
-      ∷ pointersBytes (s .heads) ∷ loadsBytes (s .loads) ∷ s .page ∷ s .bloom ∷ bytes 8 (s .start) ∷ loadBytes (s .low)
+      bytes 4 (s .oldest) ∷ bytes 4 (s .current) ∷ bytes 2 (s .count) ∷ bytes 1 (s .buckets) ∷ bytes 8 (s .next)
+      ∷ pointersBytes New (s .heads) ∷ loadsBytes (s .loads) ∷ s .page ∷ s .bloom ∷ bytes 8 (s .start) ∷ loadBytes (s .low)
       ∷ loadBytes (s .high) ∷ []
 
   side : joined fields [] ≡ stateBytes s
@@ -99,13 +99,13 @@ module _ (s : State) (a b c d : Pointer) (h : Held s a b c d) where
       → numberAt (stateBytes s) at n ≡ v
   number k at n v l e p f = ap le (stands k at n (bytes n v) l e p (length-bytes n v)) ∙ le-bytes n v f
 
-  heads-bytes : length (pointersBytes (s .heads)) ≡ 40
-  heads-bytes = length-pointers (s .heads) ∙ omega (arith, ap length (h .heads))
+  heads-bytes : length (pointersBytes New (s .heads)) ≡ 56
+  heads-bytes = length-pointers New (s .heads) ∙ omega (arith, ap length (h .heads))
 
   loads-bytes : length (loadsBytes (s .loads)) ≡ 52
   loads-bytes = length-loads (s .loads) ∙ omega (arith, h .loads)
 
-  pub state-length : length (stateBytes s) ≡ 775
+  pub state-length : length (stateBytes s) ≡ 783
   unfolding stateBytes
   state-length = simp (length-append, length-bytes, length-load, heads-bytes, loads-bytes, h .page, h .bloom)
 
@@ -122,14 +122,13 @@ module _ (s : State) (a b c d : Pointer) (h : Held s a b c d) where
       (sym (number 2 8 2 (s .count) (omega arith) refl refl (h .count)))
       (sym (number 3 10 1 (s .buckets) (omega arith) refl refl (h .buckets)))
       (sym (number 4 11 8 (s .next) (omega arith) refl refl (h .next)))
-      (sym (number 5 19 8 (s .live) (omega arith) refl refl (h .live)))
-      (h .heads ∙ sym (pointers-decoded (stateBytes s) 27 a b c d (h .head-fits .0) (h .head-fits .1) (h .head-fits .2) (h .head-fits .3)
-      (omega (arith, state-length)) (stands 6 27 40 (pointersBytes (s .heads)) (omega arith) refl refl lh ∙ ap pointersBytes (h .heads))))
-      (sym (ap (loadsAt (stateBytes s) 67) (sym (h .loads)) ∙ loads-read (stateBytes s) 67 (s .loads) (h .load-fits)
+      (h .heads ∙ sym (pointers-decoded New (stateBytes s) 19 a b c d (h .head-fits .0) (h .head-fits .1) (h .head-fits .2) (h .head-fits .3)
+      (omega (arith, state-length)) (stands 5 19 56 (pointersBytes New (s .heads)) (omega arith) refl refl lh ∙ ap (pointersBytes New) (h .heads))))
+      (sym (ap (loadsAt (stateBytes s) 75) (sym (h .loads)) ∙ loads-read (stateBytes s) 75 (s .loads) (h .load-fits)
       (omega (arith, state-length, h .loads))
-      (stands 7 67 (4 * length (s .loads)) (loadsBytes (s .loads)) (omega arith) refl (omega arith) (length-loads (s .loads)))))
-      (sym (stands 8 119 512 (s .page) (omega arith) refl (omega arith) (h .page)))
-      (sym (stands 9 631 128 (s .bloom) (omega arith) refl (omega arith) (h .bloom)))
-      (sym (number 10 759 8 (s .start) (omega arith) refl (omega arith) (h .start)))
-      (sym (load-read (stateBytes s) 767 (s .low) (h .low) (stands 11 767 4 (loadBytes (s .low)) (omega arith) refl (omega arith) (length-load (s .low)))))
-      (sym (load-read (stateBytes s) 771 (s .high) (h .high) (stands 12 771 4 (loadBytes (s .high)) (omega arith) refl (omega arith) (length-load (s .high))))))
+      (stands 6 75 (4 * length (s .loads)) (loadsBytes (s .loads)) (omega arith) refl (omega arith) (length-loads (s .loads)))))
+      (sym (stands 7 127 512 (s .page) (omega arith) refl (omega arith) (h .page)))
+      (sym (stands 8 639 128 (s .bloom) (omega arith) refl (omega arith) (h .bloom)))
+      (sym (number 9 767 8 (s .start) (omega arith) refl (omega arith) (h .start)))
+      (sym (load-read (stateBytes s) 775 (s .low) (h .low) (stands 10 775 4 (loadBytes (s .low)) (omega arith) refl (omega arith) (length-load (s .low)))))
+      (sym (load-read (stateBytes s) 779 (s .high) (h .high) (stands 11 779 4 (loadBytes (s .high)) (omega arith) refl (omega arith) (length-load (s .high))))))

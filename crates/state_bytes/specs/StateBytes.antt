@@ -1,6 +1,7 @@
--- The state as 775 bytes, in the order of document 01's state list: "oldest retained serial, open serial, count, bucket count, next
--- time .., oldest live time, four skip heads, last 13 loads of the open segment (oldest first), page buffer, Bloom buffer, the open
--- segment's start time, low and high load". Little-endian, no gaps. Assumes nothing.
+-- The state as 783 bytes, in the order of document 01's state list: "oldest retained serial, open serial, count, bucket count, next
+-- time .., four skip heads, last 13 loads of the open segment (oldest first), page buffer, Bloom buffer, the open segment's start time,
+-- low and high load"; "the oldest live time leaves the state" (document 02, W-202). Heads in form 1, little-endian, no gaps.
+-- Assumes nothing.
 use mathlib.Core.List.{List, _++_}
 use Prim.Native.Nat.{ℕ, _*_, _%_}
 use lib.IntN.{ℤ}
@@ -8,6 +9,7 @@ use Rattle.codec.specs.Area.{part, splice}
 use Rattle.codec.specs.Number.{bytes, numberAt}
 use Rattle.lift.specs.Record.{recordBytes}
 use Rattle.bloom.specs.Bloom.{noted}
+use Rattle.form.specs.declared.Form.the-variants.{New}
 use Rattle.skiplist.specs.declared.Pointer.{Pointer}
 use Rattle.skiplist.specs.PointerBytes.{pointersBytes, pointersAt}
 use Rattle.store.specs.declared.State.{State}
@@ -19,8 +21,8 @@ use Rattle.state_bytes.specs.Signed.{loadBytes, loadsBytes, loadAt, load
 unfoldable pub stateBytes : State → List ℕ
 stateBytes s =
     bytes 4 (s .oldest) ++ bytes 4 (s .current) ++ bytes 2 (s .count) ++ bytes 1 (s .buckets) ++ bytes 8 (s .next)
-    ++ bytes 8 (s .live) ++ pointersBytes (s .heads) ++ loadsBytes (s .loads) ++ s .page ++ s .bloom ++ bytes 8 (s .start)
-    ++ loadBytes (s .low) ++ loadBytes (s .high)
+    ++ pointersBytes New (s .heads) ++ loadsBytes (s .loads) ++ s .page ++ s .bloom ++ bytes 8 (s .start) ++ loadBytes (s .low)
+    ++ loadBytes (s .high)
 
 -- its fields before the heads, and those behind the buffers
 abbrev pub countersOf : State → Counters
@@ -30,7 +32,6 @@ countersOf s = record {
   count = s .count;
   buckets = s .buckets;
   next = s .next;
-  live = s .live;
 }
 
 abbrev pub spanOf : State → Span
@@ -39,7 +40,6 @@ spanOf s = record { start = s .start; low = s .low; high = s .high }
 unfoldable pub countersBytes : Counters → List ℕ
 countersBytes c =
     bytes 4 (c .oldest) ++ bytes 4 (c .current) ++ bytes 2 (c .count) ++ bytes 1 (c .buckets) ++ bytes 8 (c .next)
-    ++ bytes 8 (c .live)
 
 unfoldable pub spanBytes : Span → List ℕ
 spanBytes s = bytes 8 (s .start) ++ loadBytes (s .low) ++ loadBytes (s .high)
@@ -47,7 +47,7 @@ spanBytes s = bytes 8 (s .start) ++ loadBytes (s .low) ++ loadBytes (s .high)
 -- all fields side by side
 unfoldable pub fieldsBytes : Counters → List Pointer → List ℤ → List ℕ → List ℕ → Span → List ℕ
 fieldsBytes c heads loads page section s =
-    ((((countersBytes c ++ pointersBytes heads) ++ loadsBytes loads) ++ page) ++ section) ++ spanBytes s
+    ((((countersBytes c ++ pointersBytes New heads) ++ loadsBytes loads) ++ page) ++ section) ++ spanBytes s
 
 -- a state with a lift that fills no page, its bucket count given
 unfoldable pub withLift : State → ℕ → ℕ → ℤ → List ℕ → ℕ → State
@@ -62,12 +62,11 @@ stateIn b = record {
   count = numberAt b 8 2;
   buckets = numberAt b 10 1;
   next = numberAt b 11 8;
-  live = numberAt b 19 8;
-  heads = pointersAt b 27;
-  loads = loadsAt b 67 13;
-  page = part b 119 512;
-  bloom = part b 631 128;
-  start = numberAt b 759 8;
-  low = loadAt b 767;
-  high = loadAt b 771;
+  heads = pointersAt New b 19;
+  loads = loadsAt b 75 13;
+  page = part b 127 512;
+  bloom = part b 639 128;
+  start = numberAt b 767 8;
+  low = loadAt b 775;
+  high = loadAt b 779;
 }

@@ -1,6 +1,7 @@
 // A lift written straight into the area of the state, where no page and no section goes out.
 use crate::Counters;
 use crate::Span;
+use form::Form;
 ghost use mathlib.Core.Path.{_≡_};
 ghost use mathlib.Core.List.{List};
 ghost use Prim.Native.Nat.{ℕ, _+_, _≤_};
@@ -14,28 +15,25 @@ ghost use Rattle.state_bytes.specs.StateBytes.{countersOf, spanOf, state
 
 // The fields before the heads after a lift.
 fn counters_after(b: &[u8], time: u64, buckets: u8) -> Counters
-    requires { ⌜ (length (now b) ≡ 775) × (numberAt (now b) 8 2 ≤ 320) × (time ≤ 999999999999999) ⌝ }
+    requires { ⌜ (length (now b) ≡ 783) × (numberAt (now b) 8 2 ≤ 320) ⌝ }
     ensures { λ r. ⌜ ((load : ℤ) (page section : List ℕ) → r
         ≡ countersOf (stateGiven (stateIn (now (b .entry))) time load buckets page section)) ⌝ }
 {
     let oldest = codec::get_u32(b, crate::OLDEST_AT);
     let current = codec::get_u32(b, crate::CURRENT_AT);
     let count = codec::get_u16(b, crate::COUNT_AT);
-    let live = codec::get_u64(b, crate::LIVE_AT);
-    let after = store::parts::live_after(count, oldest, current, live, time);
     Counters {
         oldest: oldest,
         current: current,
         count: count + 1,
         buckets: buckets,
-        next: time + 1,
-        live: after,
+        next: time,
     }
 }
 
 // Those behind the buffers.
 fn span_after(b: &[u8], time: u64, load: i32) -> Span
-    requires { ⌜ length (now b) ≡ 775 ⌝ }
+    requires { ⌜ length (now b) ≡ 783 ⌝ }
     ensures { λ r. ⌜ ((buckets : ℕ) (page section : List ℕ) → r
         ≡ spanOf (stateGiven (stateIn (now (b .entry))) time load buckets page section)) ⌝ }
 {
@@ -64,11 +62,11 @@ fn put_record(b: &mut [u8], at: usize, time: u64, code: u32, note: [u8; 20])
 
 // The lift with its bucket count; its record and bits go into the buffers.
 pub fn put_lift(b: &mut [u8], time: u64, code: u32, load: i32, note: [u8; 20], buckets: u8)
-    requires { ⌜ (length (now b) ≡ 775) × (numberAt (now b) 8 2 ≤ 320) × (time ≤ 999999999999999) × (1 ≤ code) ⌝ }
+    requires { ⌜ (length (now b) ≡ 783) × (numberAt (now b) 8 2 ≤ 320) × (1 ≤ code) ⌝ }
     ensures { λ _. ⌜ now (b .exit) ≡ stateBytes (withLift (stateIn (now (b .entry))) time code load note buckets) ⌝ }
 {
     let n = codec::get_u16(b, crate::COUNT_AT);
-    let heads = skiplist::pointers_at(b, crate::HEADS_AT);
+    let heads = skiplist::pointers_at(b, crate::HEADS_AT, Form::New);
     let old = crate::loads_at(b);
     let loads = bounds::pushed(old, n, load);
     let before = crate::bloom_at(b);

@@ -1,6 +1,8 @@
-// The state as a lent area of 775 bytes, in the order of document 01's list: little-endian, no gaps.
+// The state as a lent area of 783 bytes, in the order of document 01's list without the oldest live time (document 02, W-202 and
+// W-214): little-endian, no gaps.
 pub mod in_place;
 
+use form::Form;
 use skiplist::Pointer;
 use store::State;
 ghost use mathlib.Core.Path.{_≡_};
@@ -11,7 +13,7 @@ ghost use Rattle.state_bytes.specs.Signed as Signed;
 ghost use Rattle.state_bytes.specs.Signed.{loadBytes, loadsBytes, loadAt, loadsAt};
 ghost use Rattle.state_bytes.specs.StateBytes.{countersBytes, spanBytes, fieldsBytes, stateBytes, stateIn};
 
-pub const STATE_BYTES: usize = 775;
+pub const STATE_BYTES: usize = 783;
 // Where each field stands.
 const OLDEST_AT: usize = 0;
 
@@ -23,21 +25,19 @@ const BUCKETS_AT: usize = 10;
 
 const NEXT_AT: usize = 11;
 
-const LIVE_AT: usize = 19;
+const HEADS_AT: usize = 19;
 
-const HEADS_AT: usize = 27;
+const LOADS_AT: usize = 75;
 
-const LOADS_AT: usize = 67;
+const PAGE_AT: usize = 127;
 
-const PAGE_AT: usize = 119;
+const BLOOM_AT: usize = 639;
 
-const BLOOM_AT: usize = 631;
+const START_AT: usize = 767;
 
-const START_AT: usize = 759;
+const LOW_AT: usize = 775;
 
-const LOW_AT: usize = 767;
-
-const HIGH_AT: usize = 771;
+const HIGH_AT: usize = 779;
 
 // The fields before the heads, and those behind the buffers.
 pub struct Counters {
@@ -46,7 +46,6 @@ pub struct Counters {
     pub count: u16,
     pub buckets: u8,
     pub next: u64,
-    pub live: u64,
 }
 
 pub struct Span {
@@ -95,8 +94,8 @@ fn put_load(b: &mut [u8], at: usize, load: i32)
 
 // The last 13 loads, oldest first.
 fn loads_at(b: &[u8]) -> [i32; 13]
-    requires { ⌜ length (now b) ≡ 775 ⌝ }
-    ensures { λ r. ⌜ r ≡ loadsAt (now (b .entry)) 67 13 ⌝ }
+    requires { ⌜ length (now b) ≡ 783 ⌝ }
+    ensures { λ r. ⌜ r ≡ loadsAt (now (b .entry)) 75 13 ⌝ }
 {
     let l0 = load_at(b, LOADS_AT);
     let l1 = load_at(b, LOADS_AT + 4);
@@ -115,8 +114,8 @@ fn loads_at(b: &[u8]) -> [i32; 13]
 }
 
 fn put_loads(b: &mut [u8], loads: [i32; 13])
-    requires { ⌜ length (now b) ≡ 775 ⌝ }
-    ensures { λ _. ⌜ now (b .exit) ≡ splice (now (b .entry)) 67 (loadsBytes loads) ⌝ }
+    requires { ⌜ length (now b) ≡ 783 ⌝ }
+    ensures { λ _. ⌜ now (b .exit) ≡ splice (now (b .entry)) 75 (loadsBytes loads) ⌝ }
 {
     let mut i: usize = 0;
     while i < 13 {
@@ -127,8 +126,8 @@ fn put_loads(b: &mut [u8], loads: [i32; 13])
 }
 
 fn page_at(b: &[u8]) -> [u8; 512]
-    requires { ⌜ length (now b) ≡ 775 ⌝ }
-    ensures { λ r. ⌜ r ≡ part (now (b .entry)) 119 512 ⌝ }
+    requires { ⌜ length (now b) ≡ 783 ⌝ }
+    ensures { λ r. ⌜ r ≡ part (now (b .entry)) 127 512 ⌝ }
 {
     let mut p = [0u8; 512];
     codec::copy(&mut p, 0, &b[PAGE_AT..BLOOM_AT]);
@@ -136,8 +135,8 @@ fn page_at(b: &[u8]) -> [u8; 512]
 }
 
 fn bloom_at(b: &[u8]) -> [u8; 128]
-    requires { ⌜ length (now b) ≡ 775 ⌝ }
-    ensures { λ r. ⌜ r ≡ part (now (b .entry)) 631 128 ⌝ }
+    requires { ⌜ length (now b) ≡ 783 ⌝ }
+    ensures { λ r. ⌜ r ≡ part (now (b .entry)) 639 128 ⌝ }
 {
     let mut p = [0u8; 128];
     codec::copy(&mut p, 0, &b[BLOOM_AT..START_AT]);
@@ -145,21 +144,21 @@ fn bloom_at(b: &[u8]) -> [u8; 128]
 }
 
 fn put_page(b: &mut [u8], page: [u8; 512])
-    requires { ⌜ length (now b) ≡ 775 ⌝ }
-    ensures { λ _. ⌜ now (b .exit) ≡ splice (now (b .entry)) 119 page ⌝ }
+    requires { ⌜ length (now b) ≡ 783 ⌝ }
+    ensures { λ _. ⌜ now (b .exit) ≡ splice (now (b .entry)) 127 page ⌝ }
 {
     codec::copy(b, PAGE_AT, &page);
 }
 
 fn put_bloom(b: &mut [u8], bloom: [u8; 128])
-    requires { ⌜ length (now b) ≡ 775 ⌝ }
-    ensures { λ _. ⌜ now (b .exit) ≡ splice (now (b .entry)) 631 bloom ⌝ }
+    requires { ⌜ length (now b) ≡ 783 ⌝ }
+    ensures { λ _. ⌜ now (b .exit) ≡ splice (now (b .entry)) 639 bloom ⌝ }
 {
     codec::copy(b, BLOOM_AT, &bloom);
 }
 
 pub fn get_state(b: &[u8]) -> State
-    requires { ⌜ length (now b) ≡ 775 ⌝ }
+    requires { ⌜ length (now b) ≡ 783 ⌝ }
     ensures { λ r. ⌜ r ≡ stateIn (now (b .entry)) ⌝ }
 {
     let oldest = codec::get_u32(b, OLDEST_AT);
@@ -167,8 +166,7 @@ pub fn get_state(b: &[u8]) -> State
     let count = codec::get_u16(b, COUNT_AT);
     let buckets = codec::get_u8(b, BUCKETS_AT);
     let next = codec::get_u64(b, NEXT_AT);
-    let live = codec::get_u64(b, LIVE_AT);
-    let heads = skiplist::pointers_at(b, HEADS_AT);
+    let heads = skiplist::pointers_at(b, HEADS_AT, Form::New);
     let loads = loads_at(b);
     let page = page_at(b);
     let bloom = bloom_at(b);
@@ -181,7 +179,6 @@ pub fn get_state(b: &[u8]) -> State
         count: count,
         buckets: buckets,
         next: next,
-        live: live,
         heads: heads,
         loads: loads,
         page: page,
@@ -193,7 +190,7 @@ pub fn get_state(b: &[u8]) -> State
 }
 
 fn put_counters(b: &mut [u8], c: Counters)
-    requires { ⌜ length (now b) ≡ 775 ⌝ }
+    requires { ⌜ length (now b) ≡ 783 ⌝ }
     ensures { λ _. ⌜ now (b .exit) ≡ splice (now (b .entry)) 0 (countersBytes c) ⌝ }
 {
     codec::put_u32(b, OLDEST_AT, c.oldest);
@@ -201,12 +198,11 @@ fn put_counters(b: &mut [u8], c: Counters)
     codec::put_u16(b, COUNT_AT, c.count);
     codec::put_u8(b, BUCKETS_AT, c.buckets);
     codec::put_u64(b, NEXT_AT, c.next);
-    codec::put_u64(b, LIVE_AT, c.live);
 }
 
 fn put_span(b: &mut [u8], s: Span)
-    requires { ⌜ length (now b) ≡ 775 ⌝ }
-    ensures { λ _. ⌜ now (b .exit) ≡ splice (now (b .entry)) 759 (spanBytes s) ⌝ }
+    requires { ⌜ length (now b) ≡ 783 ⌝ }
+    ensures { λ _. ⌜ now (b .exit) ≡ splice (now (b .entry)) 767 (spanBytes s) ⌝ }
 {
     codec::put_u64(b, START_AT, s.start);
     put_load(b, LOW_AT, s.low);
@@ -222,18 +218,18 @@ fn put_around(
     section: [u8; 128],
     s: Span,
 )
-    requires { ⌜ length (now b) ≡ 775 ⌝ }
-    ensures { λ _. ⌜ now (b .exit) ≡ fieldsBytes c heads loads (part (now (b .entry)) 119 512) section s ⌝ }
+    requires { ⌜ length (now b) ≡ 783 ⌝ }
+    ensures { λ _. ⌜ now (b .exit) ≡ fieldsBytes c heads loads (part (now (b .entry)) 127 512) section s ⌝ }
 {
     put_counters(b, c);
-    skiplist::put_pointers(b, HEADS_AT, heads);
+    skiplist::put_pointers(b, HEADS_AT, heads, Form::New);
     put_loads(b, loads);
     put_bloom(b, section);
     put_span(b, s);
 }
 
 pub fn put_state(b: &mut [u8], s: State)
-    requires { ⌜ length (now b) ≡ 775 ⌝ }
+    requires { ⌜ length (now b) ≡ 783 ⌝ }
     ensures { λ _. ⌜ now (b .exit) ≡ stateBytes s ⌝ }
 {
     let heads = s.heads;
@@ -246,7 +242,6 @@ pub fn put_state(b: &mut [u8], s: State)
         count: s.count,
         buckets: s.buckets,
         next: s.next,
-        live: s.live,
     };
     let span = Span {
         start: s.start,

@@ -13,6 +13,7 @@ use Rattle.tree.specs.Plan as Tree
 use Rattle.tree.specs.Plan.{isNoRoom}
 use Rattle.bounds.specs.Grounds.{nandBad, norBad, liftGround}
 use Rattle.bounds.proofs.Within.{lift-then}
+use Rattle.form.specs.declared.Form.the-variants.{New}
 use Rattle.grow.specs.declared.Plan.{Plan}
 use Rattle.grow.specs.declared.Plan.the-variants.{Damage, Full, Root, Entry, Child, Split}
 use Rattle.grow.specs.Meaning.{meaning, Fitting}
@@ -31,13 +32,13 @@ module _ (s : State) (nand nor slots time : ℕ) (load : ℤ) (n : ℕ) (judged 
   pub entry-bounds : (n ≡ 0 → ⊥) → n ≡ entryGround s nand nor slots time load
   unfolding entryGround boundsGround
   entry-bounds h =
-      row-same (nandBad nand slots) (norBad nor) (not (withinBounds s slots)) n 0
+      row-same (nandBad nand slots) (norBad nor) (not (withinBounds New s 0 slots)) n 0
       (liftGround time load (s .next) (s .current) 0) judged (λ e. absurd (h e))
 
   pub entry-lift : (m : ℕ) → n ≡ 0 → m ≡ liftGround time load (s .next) (s .current) 0 → m ≡ entryGround s nand nor slots time load
   unfolding entryGround boundsGround
   entry-lift m h f =
-      row-later (nandBad nand slots) (norBad nor) (not (withinBounds s slots)) n 0
+      row-later (nandBad nand slots) (norBad nor) (not (withinBounds New s 0 slots)) n 0
       (liftGround time load (s .next) (s .current) 0) judged h m f
 
 -- where none of them holds
@@ -49,7 +50,7 @@ pub entered : (s : State) (nand nor slots time : ℕ) (load : ℤ) → entryGrou
     → Entered s nand nor slots time load
 unfolding entryGround boundsGround
 entered s nand nor slots time load e =
-    let r = row-none (nandBad nand slots) (norBad nor) (not (withinBounds s slots))
+    let r = row-none (nandBad nand slots) (norBad nor) (not (withinBounds New s 0 slots))
     (liftGround time load (s .next) (s .current) 0) e in
     record { bounds = r .0; lift = r .1 }
 
@@ -171,7 +172,7 @@ module _ (nand nor : List ℕ) (s : State) (slots time : ℕ) (load : ℤ) (n : 
   pub number-early : (n ≡ 0 → ⊥) → n ≡ appendGround w slots time load
   unfolding appendGround entryGround more laterGround
   number-early h =
-      row-same (nandBad (length nand) slots) (norBad (length nor)) (not (withinBounds s slots)) n _ _ judged
+      row-same (nandBad (length nand) slots) (norBad (length nor)) (not (withinBounds New s 0 slots)) n _ _ judged
       (λ e. e ∙ sym (lift-then time load (s .next) (s .current) more ∙ past e))
     where
       past : n ≡ liftGround time load (s .next) (s .current) 0
@@ -184,7 +185,7 @@ module _ (nand nor : List ℕ) (s : State) (slots time : ℕ) (load : ℤ) (n : 
     unfolding appendGround more laterGround
     number-later =
         let e = entered s (length nand) (length nor) slots time load (sym judged ∙ zero) in
-        stands w slots 0 (sym (e .bounds)) _ m refl (later ∙ by-plan
+        stands nand nor s slots 0 (sym (e .bounds)) _ m refl (later ∙ by-plan
         ∙ sym (lift-then time load (s .next) (s .current) more ∙ past (e .lift)))
       where
         by-plan : laterGround w slots load p ≡ more

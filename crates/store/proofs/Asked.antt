@@ -11,8 +11,10 @@ use lib.Signed.{ltZ}
 use borrow.Author.Tests.{ne-eqb, not-false}
 use Rattle.lift.specs.Limits.{timeOk, loadOk, stored}
 use Rattle.plate.specs.Plate.{noCounts}
+use Rattle.form.specs.declared.Form.{Form}
+use Rattle.form.specs.declared.Form.the-variants.{New}
 use Rattle.skiplist.specs.declared.Pointer.{Pointer}
-use Rattle.skiplist.specs.Skip.{none, inSlots}
+use Rattle.skiplist.specs.Skip.{none, serialsFrom, inSlots}
 use Rattle.walk.specs.declared.Log.{Log}
 use Rattle.walk.specs.Sound.{InSlots, LogSound}
 use Rattle.search.specs.Found.{foundRows}
@@ -24,8 +26,8 @@ use Rattle.store.specs.Bounds.{headsOk, withinBounds}
 use Rattle.store.specs.World.{world}
 use Rattle.store.specs.Calls.{boundsGround}
 use Rattle.store.specs.Queries.{logOf, queryOf, askedGround, searchGround, searchOutcome, tallyOutcome}
-use Rattle.store.proofs.Rows.{row-same, row-later, row-none}
-use Rattle.store.proofs.Grounds.{Standing, standing}
+use Rattle.store.proofs.Rows.{row, row-same, row-later, row-none}
+use Rattle.store.proofs.Grounds.{standing-in}
 
 -- ---- grounds 1 to 6
 
@@ -33,12 +35,12 @@ module _ (s : State) (nand nor slots t1 t2 : ℕ) (k1 k2 : ℤ) (n : ℕ) (judge
   pub asked-bounds : (n ≡ 0 → ⊥) → n ≡ askedGround s nand nor slots t1 t2 k1 k2
   unfolding askedGround boundsGround
   asked-bounds h =
-      row-same (nandBad nand slots) (norBad nor) (not (withinBounds s slots)) n 0 (queryGround t1 t2 k1 k2) judged (λ e. absurd (h e))
+      row-same (nandBad nand slots) (norBad nor) (not (withinBounds New s 0 slots)) n 0 (queryGround t1 t2 k1 k2) judged (λ e. absurd (h e))
 
   pub asked-query : (m : ℕ) → n ≡ 0 → m ≡ queryGround t1 t2 k1 k2 → m ≡ askedGround s nand nor slots t1 t2 k1 k2
   unfolding askedGround boundsGround
   asked-query m h f =
-      row-later (nandBad nand slots) (norBad nor) (not (withinBounds s slots)) n 0 (queryGround t1 t2 k1 k2) judged h m f
+      row-later (nandBad nand slots) (norBad nor) (not (withinBounds New s 0 slots)) n 0 (queryGround t1 t2 k1 k2) judged h m f
 
 -- ---- where none of them holds
 
@@ -53,12 +55,15 @@ pub record Asked (s : State) (nand nor : List ℕ) (slots : ℕ) (k1 k2 : ℤ) :
   pub high : loadOk k2 ≡ true
   pub sound : LogSound nand nor (logOf s slots)
 
-pub asked : (s : State) (nand nor : List ℕ) (slots t1 t2 : ℕ) (k1 k2 : ℤ)
-    → askedGround s (length nand) (length nor) slots t1 t2 k1 k2 ≡ 0 → Asked s nand nor slots k1 k2
-unfolding askedGround boundsGround queryGround
-asked s nand nor slots t1 t2 k1 k2 e =
-    let r = row-none (nandBad (length nand) slots) (norBad (length nor)) (not (withinBounds s slots)) (queryGround t1 t2 k1 k2) e in
-    let st = standing s (length nand) (length nor) slots (r .0) in
+-- in either form
+pub asked-in : (f : Form) (s : State) (live : ℕ) (nand nor : List ℕ) (slots t1 t2 : ℕ) (k1 k2 : ℤ)
+    → row (nandBad (length nand) slots) (norBad (length nor)) (not (withinBounds f s live slots)) (queryGround t1 t2 k1 k2) ≡ 0
+    → Asked s nand nor slots k1 k2
+unfolding queryGround
+asked-in f s live nand nor slots t1 t2 k1 k2 e =
+    let r = row-none (nandBad (length nand) slots) (norBad (length nor)) (not (withinBounds f s live slots))
+    (queryGround t1 t2 k1 k2) e in
+    let st = standing-in f s live (length nand) (length nor) slots (r .0) in
     let times = not (timeOk t1 && timeOk t2) in
     let loads = not (loadOk k1 && loadOk k2) in
     let more = ground 6 (ltb t2 t1 || ltZ k2 k1) 0 in
@@ -78,6 +83,11 @@ asked s nand nor slots t1 t2 k1 k2 e =
       };
     }
 
+pub asked : (s : State) (nand nor : List ℕ) (slots t1 t2 : ℕ) (k1 k2 : ℤ)
+    → askedGround s (length nand) (length nor) slots t1 t2 k1 k2 ≡ 0 → Asked s nand nor slots k1 k2
+unfolding askedGround
+asked s nand nor slots t1 t2 k1 k2 e = asked-in New s 0 nand nor slots t1 t2 k1 k2 e
+
 -- ---- the returns of a search
 
 module _ (nand nor : List ℕ) (s : State) (slots t1 t2 : ℕ) (k1 k2 : ℤ) (area : List ℕ) (n : ℕ)
@@ -89,7 +99,7 @@ module _ (nand nor : List ℕ) (s : State) (slots t1 t2 : ℕ) (k1 k2 : ℤ) (ar
 
   -- g and the loads as the code makes them
   pub search-done : n ≡ 0 → (g : Log) (low high : ℕ) → g ≡ logOf s slots → low ≡ stored k1 → high ≡ stored k2 → (a : SearchAnswer)
-      → a ≡ searchAnswer area (foundRows nand nor (s .page) g (record { t1 = t1; t2 = t2; k1 = low; k2 = high }))
+      → a ≡ searchAnswer area (foundRows nand nor (s .page) g (serialsFrom (g .oldest)) (record { t1 = t1; t2 = t2; k1 = low; k2 = high }))
       → a ≡ searchOutcome (world nand nor s) slots t1 t2 k1 k2 area
   unfolding searchOutcome searchGround askedGround
   search-done z g low high e l h a f = rw (← judged, z) (f ∙ rw (e, l, h))
@@ -104,7 +114,7 @@ module _ (nand nor : List ℕ) (s : State) (slots t1 t2 : ℕ) (n : ℕ)
   tally-refused h = rw (← judged, ne-eqb n 0 h)
 
   pub tally-done : n ≡ 0 → (g : Log) → g ≡ logOf s slots → (a : TallyAnswer)
-      → a ≡ tallyAnswer (foundRows nand nor (s .page) g (record { t1 = t1; t2 = t2; k1 = 1; k2 = 150001 }))
+      → a ≡ tallyAnswer (foundRows nand nor (s .page) g (serialsFrom (g .oldest)) (record { t1 = t1; t2 = t2; k1 = 1; k2 = 150001 }))
       → a ≡ tallyOutcome (world nand nor s) slots t1 t2
   unfolding tallyOutcome searchGround askedGround stored
   tally-done z g e a f = rw (← judged, z) (f ∙ rw e)

@@ -20,8 +20,8 @@ use Rattle.store.specs.declared.State.{State}
 use Rattle.store.proofs.Rows.{twice}
 use Rattle.store.specs.World.{World, world, closeWorld, movedOn, fillsPage}
 use Rattle.store.specs.Calls as Calls
-use Rattle.store.specs.Calls.{roomWorld, norClear, dropDamage, appendDamage, appendUnerased}
-use Rattle.store.specs.Pieces.{dropsFirst, forcedGood, laterGround}
+use Rattle.store.specs.Calls.{roomWorld, norClear, appendDamage, appendUnerased}
+use Rattle.store.specs.Pieces.{dropsFirst, laterGround}
 
 -- ---- damage on the path
 
@@ -41,33 +41,32 @@ full-is (splitBucket b m side x y) e = absurd (false≢true e)
 
 -- ---- without a close
 
--- the tests in the code's form
-both : (d c good clear : Bool) → good ≡ not d → clear ≡ c → (d || not c) ≡ not (good && clear)
-both true c good clear e f = rw e
-both false c good clear e f = rw (e, f)
+-- a forced drop meets no damage
+no-drop : (first clear : Bool) → ((first && false) || not clear) ≡ not clear
+no-drop true clear = refl
+no-drop false clear = refl
 
 module _ (nand nor : List ℕ) (s : State) (slots : ℕ) (load : ℤ) (p : Plan) (sound : isDamaged p ≡ false) (room : isNoRoom p ≡ false)
-    (good clear : Bool) (judged : good ≡ not (dropsFirst s slots && dropDamage (world nand [] s) slots))
-    (cleared : clear ≡ norClear (world [] nor s) load p) where
+    (clear : Bool) (cleared : clear ≡ norClear (world [] nor s) load p) where
   abbrev w : World
   w = world nand nor s
 
-  damage : appendDamage w slots load p ≡ not (good && clear)
+  damage : appendDamage w slots load p ≡ not clear
   unfolding appendDamage Calls.dropsFirst norClear
-  damage = rw sound (both (dropsFirst s slots && dropDamage w slots) (norClear w load p) good clear judged cleared)
+  damage = rw sound (no-drop (dropsFirst s slots) (norClear w load p) ∙ ap not (sym cleared))
 
   stays : roomWorld w slots p ≡ w
   unfolding roomWorld
   stays = rw room
 
-  later : laterGround w slots load p ≡ ground 10 (not (good && clear)) (ground 11 (appendUnerased w w slots p) 0)
+  later : laterGround w slots load p ≡ ground 10 (not clear) (ground 11 (appendUnerased w w slots p) 0)
   unfolding laterGround
   later = rw (stays, damage)
 
-  pub put-damaged : not (good && clear) ≡ true → 10 ≡ laterGround w slots load p
+  pub put-damaged : not clear ≡ true → 10 ≡ laterGround w slots load p
   put-damaged h = rw (later, h)
 
-  pub put-unerased : (slot : ℕ) (free : Bool) → not (good && clear) ≡ false → slot ≡ slotOf (s .current) slots
+  pub put-unerased : (slot : ℕ) (free : Bool) → not clear ≡ false → slot ≡ slotOf (s .current) slots
       → free ≡ not (eqb (s .count % 16) 15 && not (pageErased nand slot (s .count / 16)))
       → ground 11 (not free) 0 ≡ laterGround w slots load p
   unfolding appendUnerased
@@ -90,31 +89,23 @@ module _ (nand nor : List ℕ) (s : State) (slots : ℕ) (load : ℤ) (size : le
   clear-closed =
       rw (size, ones-part 6144 0 0 (omega arith), ones-part 6144 0 8 (omega arith), ones-part 6144 24 6 (omega arith))
 
-  module _ (good : Bool) (judged : good ≡ forcedGood (closeWorld v slots) slots) where
-    d : Bool
-    d = dropsFirst (closeWorld v slots .state) slots && dropDamage (closeWorld v slots) slots
+  damage-closed : appendDamage (closeWorld v slots) slots load noRoom ≡ false
+  unfolding appendDamage Calls.dropsFirst closeWorld
+  damage-closed =
+      no-drop (dropsFirst (closeWorld v slots .state) slots) (norClear (closeWorld v slots) load noRoom) ∙ ap not clear-closed
 
-    forced : (b : Bool) → not good ≡ b → d ≡ b
-    unfolding d forcedGood
-    forced b h = twice d ∙ ap not (sym judged) ∙ h
+  later-closed : laterGround v slots load noRoom ≡ ground 11 (appendUnerased v (closeWorld v slots) slots noRoom) 0
+  unfolding laterGround roomWorld
+  later-closed = rw damage-closed
 
-    later-closed : (b : Bool) → not good ≡ b
-        → laterGround v slots load noRoom ≡ ground 10 (b || false) (ground 11 (appendUnerased v (closeWorld v slots) slots noRoom)
-        0)
-    unfolding laterGround roomWorld appendDamage Calls.dropsFirst d
-    later-closed b h = rw (clear-closed, ← forced b h)
-
-    pub close-damaged : not good ≡ true → 10 ≡ laterGround v slots load noRoom
-    close-damaged h = sym (later-closed true h)
-
-    pub close-blocked : (slot : ℕ) (erased : Bool) → not good ≡ false → slot ≡ slotOf (s .current) slots
-        → erased ≡ closeErased nand slot (s .count) (s .buckets) → ground 11 (not erased) 0 ≡ laterGround v slots load noRoom
-    unfolding appendUnerased closeWorld movedOn
-    close-blocked slot erased h e f =
-        let g : closeErased nand (slotOf (s .current) slots) (s .count) (s .buckets) ≡ erased = rw (← e) (sym f) in
-        sym (later-closed false h ∙ ap (λ b. ground 11 b 0) (or-false (not
-        (closeErased nand (slotOf (s .current) slots) (s .count) (s .buckets))) ∙ ap not g))
-      where
-        or-false : (b : Bool) → (b || false) ≡ b
-        or-false true = refl
-        or-false false = refl
+  pub close-blocked : (slot : ℕ) (erased : Bool) → slot ≡ slotOf (s .current) slots
+      → erased ≡ closeErased nand slot (s .count) (s .buckets) → ground 11 (not erased) 0 ≡ laterGround v slots load noRoom
+  unfolding appendUnerased closeWorld movedOn
+  close-blocked slot erased e f =
+      let g : closeErased nand (slotOf (s .current) slots) (s .count) (s .buckets) ≡ erased = rw (← e) (sym f) in
+      sym (later-closed ∙ ap (λ b. ground 11 b 0) (or-false (not
+      (closeErased nand (slotOf (s .current) slots) (s .count) (s .buckets))) ∙ ap not g))
+    where
+      or-false : (b : Bool) → (b || false) ≡ b
+      or-false true = refl
+      or-false false = refl

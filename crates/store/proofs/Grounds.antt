@@ -9,11 +9,14 @@ use borrow.Author.Tests.{not-false}
 use Rattle.bounds.specs.Bounds.{serialsOk, countsOk, timesOk, spanOk, loadsOk}
 use Rattle.bounds.specs.Grounds.{ground, nandBad, norBad, formatGround}
 use Rattle.bounds.proofs.Within as Within
+use Rattle.form.specs.declared.Form.{Form}
+use Rattle.form.specs.declared.Form.the-variants.{New}
 use Rattle.skiplist.specs.declared.Pointer.{Pointer}
 use Rattle.skiplist.specs.Skip.{inSlots}
 use Rattle.store.specs.declared.State.{State}
 use Rattle.store.specs.Bounds.{headsOk, withinBounds}
 use Rattle.store.specs.Calls.{boundsGround}
+use Rattle.store.proofs.Rows.{row}
 
 -- ---- ground 3
 
@@ -34,9 +37,9 @@ four-heads slots (w ∷ x ∷ y ∷ z ∷ []) e a b c d l p q r s = rw (p, q, r,
 four-heads slots (w ∷ x ∷ y ∷ z ∷ v ∷ ps) e a b c d l p q r s = absurd (omega arith)
 
 pub six-tests : (s : State) (slots : ℕ) (a b c d e f : Bool) → a ≡ serialsOk (s .oldest) (s .current) (s .count) slots
-    → b ≡ countsOk (s .current) (s .count) (s .buckets) → c ≡ timesOk (s .current) (s .count) (s .next) (s .live) (s .start)
+    → b ≡ countsOk (s .current) (s .count) (s .buckets) → c ≡ timesOk New (s .current) (s .count) (s .next) 0 (s .start)
     → d ≡ spanOk (s .count) (s .low) (s .high) → e ≡ loadsOk (s .loads) → f ≡ headsOk (s .heads) slots
-    → (a && (b && (c && (d && (e && f))))) ≡ withinBounds s slots
+    → (a && (b && (c && (d && (e && f))))) ≡ withinBounds New s 0 slots
 unfolding withinBounds
 six-tests s slots a b c d e f p q r t u v = rw (p, q, r, t, u, v)
 
@@ -47,17 +50,17 @@ module _ (s : State) (nand nor slots n : ℕ) (judged : n ≡ formatGround nand 
   unfolding boundsGround formatGround
   bounds-chips h = go (nandBad nand slots) (norBad nor) judged
     where
-      go : (a b : Bool) → n ≡ ground 1 a (ground 2 b 0) → n ≡ ground 1 a (ground 2 b (ground 3 (not (withinBounds s slots)) 0))
+      go : (a b : Bool) → n ≡ ground 1 a (ground 2 b 0) → n ≡ ground 1 a (ground 2 b (ground 3 (not (withinBounds New s 0 slots)) 0))
       go true b e = e
       go false true e = e
       go false false e = absurd (h e)
 
-  pub bounds-state : (r : Bool) → n ≡ 0 → r ≡ withinBounds s slots → ground 3 (not r) 0 ≡ boundsGround s nand nor slots
+  pub bounds-state : (r : Bool) → n ≡ 0 → r ≡ withinBounds New s 0 slots → ground 3 (not r) 0 ≡ boundsGround s nand nor slots
   unfolding boundsGround formatGround
   bounds-state r z e = go (nandBad nand slots) (norBad nor) judged
     where
       go : (a b : Bool) → n ≡ ground 1 a (ground 2 b 0)
-          → ground 3 (not r) 0 ≡ ground 1 a (ground 2 b (ground 3 (not (withinBounds s slots)) 0))
+          → ground 3 (not r) 0 ≡ ground 1 a (ground 2 b (ground 3 (not (withinBounds New s 0 slots)) 0))
       go true b f = absurd (omega arith)
       go false true f = absurd (omega arith)
       go false false f = rw e
@@ -68,17 +71,17 @@ pub record Standing (s : State) (nand nor slots : ℕ) : Type 0 where
   pub chips : Within.ChipsFit nand nor slots
   pub serials : Within.Serials (s .oldest) (s .current) (s .count) slots
   pub counts : Within.Counts (s .current) (s .count) (s .buckets)
-  pub times : Within.Times (s .count) (s .next) (s .start)
   pub span : Within.Span (s .low) (s .high)
   pub loads : loadsOk (s .loads) ≡ true
   pub heads : headsOk (s .heads) slots ≡ true
 
-within : (s : State) (nand nor slots : ℕ) → Within.ChipsFit nand nor slots → withinBounds s slots ≡ true → Standing s nand nor slots
+within : (f : Form) (s : State) (live nand nor slots : ℕ) → Within.ChipsFit nand nor slots → withinBounds f s live slots ≡ true
+    → Standing s nand nor slots
 unfolding withinBounds
-within s nand nor slots fit e =
+within f s live nand nor slots fit e =
     let a = serialsOk (s .oldest) (s .current) (s .count) slots in
     let b = countsOk (s .current) (s .count) (s .buckets) in
-    let c = timesOk (s .current) (s .count) (s .next) (s .live) (s .start) in
+    let c = timesOk f (s .current) (s .count) (s .next) live (s .start) in
     let d = spanOk (s .count) (s .low) (s .high) in
     let l = loadsOk (s .loads) in
     let h = headsOk (s .heads) slots in
@@ -90,21 +93,25 @@ within s nand nor slots fit e =
       chips = fit;
       serials = Within.serials-within _ _ _ _ (Within.and-left a (b && (c && (d && (l && h)))) e);
       counts = Within.counts-within _ _ _ (Within.and-left b (c && (d && (l && h))) e1);
-      times = Within.times-within _ _ _ _ _ (Within.and-left c (d && (l && h)) e2);
       span = Within.span-within _ _ _ (Within.and-left d (l && h) e3);
       loads = Within.and-left l h e4;
       heads = Within.and-right l h e4;
     }
 
-pub standing : (s : State) (nand nor slots : ℕ) → boundsGround s nand nor slots ≡ 0 → Standing s nand nor slots
-unfolding boundsGround
-standing s nand nor slots e =
+-- in either form
+pub standing-in : (f : Form) (s : State) (live nand nor slots : ℕ)
+    → row (nandBad nand slots) (norBad nor) (not (withinBounds f s live slots)) 0 ≡ 0 → Standing s nand nor slots
+standing-in f s live nand nor slots e =
     let n = nandBad nand slots in
     let m = norBad nor in
-    let e2 = Within.ground-rest 1 n (ground 2 m (ground 3 (not (withinBounds s slots)) 0)) (λ z. omega arith) e in
-    let e3 = Within.ground-rest 2 m (ground 3 (not (withinBounds s slots)) 0) (λ z. omega arith) e2 in
-    within s nand nor slots
-    (Within.chips-fit-if nand nor slots (Within.ground-not 1 n (ground 2 m (ground 3 (not (withinBounds s slots)) 0))
-    (λ z. omega arith) e)
-    (Within.ground-not 2 m (ground 3 (not (withinBounds s slots)) 0) (λ z. omega arith) e2))
-    (not-false (withinBounds s slots) (Within.ground-not 3 (not (withinBounds s slots)) 0 (λ z. omega arith) e3))
+    let bad = not (withinBounds f s live slots) in
+    let e2 = Within.ground-rest 1 n (ground 2 m (ground 3 bad 0)) (λ z. omega arith) e in
+    let e3 = Within.ground-rest 2 m (ground 3 bad 0) (λ z. omega arith) e2 in
+    within f s live nand nor slots
+    (Within.chips-fit-if nand nor slots (Within.ground-not 1 n (ground 2 m (ground 3 bad 0)) (λ z. omega arith) e)
+    (Within.ground-not 2 m (ground 3 bad 0) (λ z. omega arith) e2))
+    (not-false (withinBounds f s live slots) (Within.ground-not 3 bad 0 (λ z. omega arith) e3))
+
+pub standing : (s : State) (nand nor slots : ℕ) → boundsGround s nand nor slots ≡ 0 → Standing s nand nor slots
+unfolding boundsGround
+standing s nand nor slots e = standing-in New s 0 nand nor slots e

@@ -1,25 +1,23 @@
 -- Each return of `format`, `close` and `drop` is what the definition gives there. The hypotheses are what the calls ensure and
 -- the tests show.
 -- Assumes nothing.
-use mathlib.Core.Path.{_≡_, refl, sym, ap, _∙_}
+use mathlib.Core.Path.{_≡_, refl}
 use mathlib.Core.Bool.{Bool, true, false, not}
 use mathlib.Core.List.{List}
-use Prim.Native.Nat.{ℕ, _+_, _≤_, _<_}
+use Prim.Native.Nat.{ℕ}
 use native.Mathlib.Omega.{arith}
 use lib.ListN.{length}
-use borrow.Author.Tests.{lt-ltb, le-ltb, eq-eqb, ne-eqb}
-use Rattle.flash.specs.Chip.{slotOf, pageOf, slotErased, chipErased}
-use Rattle.segment.specs.declared.Header.{Header}
-use Rattle.segment.specs.Header.{headerIn}
+use borrow.Author.Tests.{eq-eqb, ne-eqb}
+use Rattle.flash.specs.Chip.{slotOf, slotErased, chipErased}
+use Rattle.form.specs.declared.Form.the-variants.{New}
 use Rattle.segment.specs.Pages.{closeErased}
 use Rattle.bounds.specs.Grounds.{nandBad, norBad, formatGround}
 use Rattle.store.specs.declared.State.{State}
-use Rattle.store.specs.declared.Renewal.{Renewal}
 use Rattle.store.specs.Bounds.{withinBounds}
-use Rattle.store.proofs.Rows.{twice, row-same, row-later}
+use Rattle.store.proofs.Rows.{row-same, row-later}
 use Rattle.store.specs.World.{World, world, closeWorld, dropWorld, withoutOldest, liveAfter}
 use Rattle.store.specs.Calls.{Outcome, outcome, answered, formatted, formatOutcome, boundsGround}
-use Rattle.store.specs.Calls.{stateGround, closeGround, closeOutcome, dropDamage, renewal, dropGround, dropOutcome}
+use Rattle.store.specs.Calls.{stateGround, closeGround, closeOutcome, dropGround, dropOutcome}
 
 -- ---- a refusal, and a call that is accepted
 
@@ -32,30 +30,29 @@ module _ (n g : ℕ) (w after : World) (e : n ≡ g) where
 
 -- ---- grounds 1 to 3, and those after them
 
-module _ (w : World) (slots n : ℕ) (judged : n ≡ boundsGround (w .state) (length (w .nand)) (length (w .nor)) slots)
-    (later : ℕ) where
-  pub stands-not : (n ≡ 0 → ⊥) → n ≡ stateGround w slots later
-  unfolding boundsGround
-  stands-not h =
-      row-same (nandBad (length (w .nand)) slots) (norBad (length (w .nor))) (not (withinBounds (w .state) slots)) n 0 later judged
-      (λ e. absurd (h e))
+module _ (nand nor : List ℕ) (s : State) (slots n : ℕ) (judged : n ≡ boundsGround s (length nand) (length nor) slots) (later : ℕ)
+  where
+    pub stands-not : (n ≡ 0 → ⊥) → n ≡ stateGround (world nand nor s) slots later
+    unfolding boundsGround
+    stands-not h =
+        row-same (nandBad (length nand) slots) (norBad (length nor)) (not (withinBounds New s 0 slots)) n 0 later judged
+        (λ e. absurd (h e))
 
-  pub stands : (m : ℕ) → n ≡ 0 → m ≡ later → m ≡ stateGround w slots later
-  unfolding boundsGround
-  stands m h f =
-      row-later (nandBad (length (w .nand)) slots) (norBad (length (w .nor)))
-      (not (withinBounds (w .state) slots)) n 0 later judged h m f
+    pub stands : (m : ℕ) → n ≡ 0 → m ≡ later → m ≡ stateGround (world nand nor s) slots later
+    unfolding boundsGround
+    stands m h f =
+        row-later (nandBad (length nand) slots) (norBad (length nor)) (not (withinBounds New s 0 slots)) n 0 later judged h m f
 
 -- ---- format
 
 module _ (nand nor : List ℕ) (slots n : ℕ) (s : State) (judged : n ≡ formatGround (length nand) (length nor) slots)
     (new : s ≡ formatted) where
-  pub format-refused : (n ≡ 0 → ⊥) → answered n nand nor s ≡ formatOutcome nand nor slots
+  pub format-refused : (n ≡ 0 → ⊥) → answered n nand nor s ≡ formatOutcome New nand nor slots
   unfolding formatOutcome
   format-refused h = rw new (refuses n _ (world nand nor formatted) _ judged h)
 
   pub format-done : (nand' nor' : List ℕ) → n ≡ 0 → nand' ≡ chipErased (length nand) → nor' ≡ chipErased (length nor)
-      → answered 0 nand' nor' s ≡ formatOutcome nand nor slots
+      → answered 0 nand' nor' s ≡ formatOutcome New nand nor slots
   unfolding formatOutcome
   format-done nand' nor' h e f = accepts n _ (world nand nor formatted) _ judged (world nand' nor' s) h (rw (new, e, f))
 
@@ -67,13 +64,13 @@ module _ (nand nor : List ℕ) (s : State) (slots n : ℕ) (judged : n ≡ bound
 
   pub close-bounds : (n ≡ 0 → ⊥) → answered n nand nor s ≡ closeOutcome w slots
   unfolding closeOutcome closeGround
-  close-bounds h = refuses n _ w (closeWorld w slots) (stands-not w slots n judged _ h) h
+  close-bounds h = refuses n _ w (closeWorld w slots) (stands-not nand nor s slots n judged _ h) h
 
   module _ (zero : n ≡ 0) where
     pub close-none : s .count ≡ 0 → answered 9 nand nor s ≡ closeOutcome w slots
     unfolding closeOutcome closeGround
     close-none h =
-        refuses 9 _ w (closeWorld w slots) (stands w slots n judged _ 9 zero (rw (eq-eqb (s .count) 0 h))) (λ z. omega arith)
+        refuses 9 _ w (closeWorld w slots) (stands nand nor s slots n judged _ 9 zero (rw (eq-eqb (s .count) 0 h))) (λ z. omega arith)
 
     module _ (slot : ℕ) (there : slot ≡ slotOf (s .current) slots) (e : Bool)
         (erased : e ≡ closeErased nand slot (s .count) (s .buckets))
@@ -81,14 +78,14 @@ module _ (nand nor : List ℕ) (s : State) (slots n : ℕ) (judged : n ≡ bound
       pub close-unerased : not e ≡ true → answered 11 nand nor s ≡ closeOutcome w slots
       unfolding closeOutcome closeGround
       close-unerased h =
-          refuses 11 _ w (closeWorld w slots) (stands w slots n judged _ 11 zero
+          refuses 11 _ w (closeWorld w slots) (stands nand nor s slots n judged _ 11 zero
           (rw (ne-eqb (s .count) 0 some, ← there, ← erased, h))) (λ z. omega arith)
 
       pub close-done : (nand' nor' : List ℕ) (s' : State) → not e ≡ false → world nand' nor' s' ≡ closeWorld w slots
           → answered 0 nand' nor' s' ≡ closeOutcome w slots
       unfolding closeOutcome closeGround
       close-done nand' nor' s' h f =
-          accepts 0 _ w (closeWorld w slots) (stands w slots n judged _ 0 zero
+          accepts 0 _ w (closeWorld w slots) (stands nand nor s slots n judged _ 0 zero
           (rw (ne-eqb (s .count) 0 some, ← there, ← erased, h)))
           (world nand' nor' s') refl f
 
@@ -96,56 +93,18 @@ module _ (nand nor : List ℕ) (s : State) (slots n : ℕ) (judged : n ≡ bound
 
   pub drop-bounds : (n ≡ 0 → ⊥) → answered n nand nor s ≡ dropOutcome w slots
   unfolding dropOutcome dropGround
-  drop-bounds h = refuses n _ w (dropWorld w slots) (stands-not w slots n judged _ h) h
+  drop-bounds h = refuses n _ w (dropWorld w slots) (stands-not nand nor s slots n judged _ h) h
 
   module _ (zero : n ≡ 0) where
     pub drop-none : s .oldest ≡ s .current → answered 9 nand nor s ≡ dropOutcome w slots
     unfolding dropOutcome dropGround
     drop-none h =
-        refuses 9 _ w (dropWorld w slots) (stands w slots n judged _ 9 zero (rw (eq-eqb (s .oldest) (s .current) h)))
+        refuses 9 _ w (dropWorld w slots) (stands nand nor s slots n judged _ 9 zero (rw (eq-eqb (s .oldest) (s .current) h)))
         (λ z. omega arith)
 
-    module _ (r : Renewal) (found : r ≡ renewal nand s slots) (some : s .oldest ≡ s .current → ⊥) where
-      good : r .good ≡ not (dropDamage w slots)
-      unfolding renewal
-      good = ap (λ (t : Renewal). t .good) found
-
-      live : r .live ≡ liveAfter w slots
-      unfolding renewal liveAfter
-      live = ap (λ (t : Renewal). t .live) found
-
-      damage : (b : Bool) → not (r .good) ≡ b → dropDamage w slots ≡ b
-      damage b e = twice (dropDamage w slots) ∙ sym (ap not good) ∙ e
-
-      pub drop-damaged : not (r .good) ≡ true → answered 10 nand nor s ≡ dropOutcome w slots
-      unfolding dropOutcome dropGround
-      drop-damaged h =
-          refuses 10 _ w (dropWorld w slots) (stands w slots n judged _ 10 zero
-          (rw (ne-eqb (s .oldest) (s .current) some, damage true h))) (λ z. omega arith)
-
-      pub drop-done : (nand' : List ℕ) (s' : State) → not (r .good) ≡ false → nand' ≡ slotErased nand (slotOf (s .oldest) slots)
-          → s' ≡ withoutOldest s (r .live) → answered 0 nand' nor s' ≡ dropOutcome w slots
-      unfolding dropOutcome dropGround dropWorld
-      drop-done nand' s' h e f =
-          accepts 0 _ w (dropWorld w slots) (stands w slots n judged _ 0 zero
-          (rw (ne-eqb (s .oldest) (s .current) some, damage false h)))
-          (world nand' nor s') refl (rw (e, f, live))
-
--- ---- what a drop finds
-
-module _ (nand : List ℕ) (s : State) (slots : ℕ) where
-  pub renewal-closed : (h : Header) → s .oldest + 1 < s .current
-      → h ≡ headerIn (pageOf nand (slotOf (s .oldest + 1) slots) 31) slots (s .current)
-      → _≡_ {A = Renewal} (record { good = h .good; live = h .start }) (renewal nand s slots)
-  unfolding renewal liveAfter
-  renewal-closed h k e =
-      rw (lt-ltb (s .oldest + 1) (s .current) k, ← e) (ap (λ b. record { good = b; live = h .start }) (twice (h .good)))
-
-  module _ (last : s .current ≤ s .oldest + 1) where
-    pub renewal-empty : s .count ≡ 0 → _≡_ {A = Renewal} (record { good = true; live = s .next }) (renewal nand s slots)
-    unfolding renewal liveAfter
-    renewal-empty h = rw (le-ltb (s .oldest + 1) (s .current) last, eq-eqb (s .count) 0 h)
-
-    pub renewal-open : (s .count ≡ 0 → ⊥) → _≡_ {A = Renewal} (record { good = true; live = s .start }) (renewal nand s slots)
-    unfolding renewal liveAfter
-    renewal-open h = rw (le-ltb (s .oldest + 1) (s .current) last, ne-eqb (s .count) 0 h)
+    pub drop-done : (nand' : List ℕ) (s' : State) → (s .oldest ≡ s .current → ⊥) → nand' ≡ slotErased nand (slotOf (s .oldest) slots)
+        → s' ≡ withoutOldest s → answered 0 nand' nor s' ≡ dropOutcome w slots
+    unfolding dropOutcome dropGround dropWorld liveAfter
+    drop-done nand' s' some e f =
+        accepts 0 _ w (dropWorld w slots) (stands nand nor s slots n judged _ 0 zero (rw (ne-eqb (s .oldest) (s .current) some)))
+        (world nand' nor s') refl (rw (e, f))

@@ -3,7 +3,7 @@
 use mathlib.Core.Path.{_≡_, refl, sym, ap, subst, _∙_}
 use mathlib.Core.Bool.{Bool, true, false, cond, not, _||_, false≢true}
 use mathlib.Core.List.{List}
-use Prim.Native.Nat.{ℕ, _%_}
+use Prim.Native.Nat.{ℕ, _+_, _%_}
 use native.Mathlib.Omega.{arith}
 use lib.Dec.{eqb}
 use lib.IntN.{ℤ}
@@ -14,7 +14,7 @@ use Rattle.tree.specs.Plan.{isNoRoom}
 use Rattle.tree.specs.Writes.{writesOf, allWritten, bucketsAfter}
 use Rattle.grow.specs.declared.Plan.{Plan}
 use Rattle.store.specs.declared.State.{State}
-use Rattle.store.specs.World.{World, world, putWorld, stateWith, pageWith, bloomWith, fillsPage, fillsSection}
+use Rattle.store.specs.World.{World, world, putWorld, stateWith, liveWith, pageWith, bloomWith, fillsPage, fillsSection}
 use Rattle.store.specs.Calls as Calls
 use Rattle.store.specs.Calls.{Outcome, planOf, roomWorld, appendGround, appendWorld, appendOutcome}
 use Rattle.store.specs.Pieces.{Accepted, dropsFirst, dropDue, isPlain, stateGiven, carriedOut}
@@ -78,8 +78,8 @@ module _ (nand nor : List ℕ) (s : State) (slots time : ℕ) (load : ℤ) (note
   put : putWorld (world nand nor s) slots time load note p
       ≡ world nand (allWritten nor (writesOf p (s .buckets) (stored load) (s .count)))
       (stateGiven s time load (bucketsAfter p (s .buckets)) (pageWith s time load note) (bloomWith s load))
-  unfolding putWorld stateWith stateGiven
-  put = rw (is .page, no-section (s .count) (is .page))
+  unfolding putWorld stateWith liveWith stateGiven
+  put = let last : time + 0 ≡ time = omega arith in rw (last, is .page, no-section (s .count) (is .page))
 
   carried : carriedOut (world nand nor s) slots time load note p ≡ putWorld (world nand nor s) slots time load note p
   unfolding carriedOut

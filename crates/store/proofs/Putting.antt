@@ -27,7 +27,7 @@ use Rattle.grow.specs.declared.Plan.{Plan}
 use Rattle.grow.specs.Meaning.{meaning, Fitting}
 use Rattle.store.specs.declared.State.{State}
 use Rattle.store.proofs.Rows.{twice}
-use Rattle.store.specs.World.{world, putWorld, stateWith, pageWith, bloomWith, fillsPage, fillsSection}
+use Rattle.store.specs.World.{world, putWorld, stateWith, liveWith, pageWith, bloomWith, fillsPage, fillsSection}
 use Rattle.store.specs.Calls.{planOf, norClear}
 use Rattle.store.specs.Pieces.{Suits, nandWith, norWith, stateGiven}
 
@@ -140,16 +140,14 @@ module _ (s : State) (time code : ℕ) (load : ℤ) (note : List ℕ) (coded : c
   indexed-section full r f g = rw (← coded, ← f) g
 
 pub counted-made : (s : State) (time : ℕ) (load : ℤ) (buckets : ℕ) (page section : List ℕ) (loads : List ℤ) (low high : ℤ)
-    (start live : ℕ) → loads ≡ pushed (s .loads) (s .count) load → low ≡ lowWith (s .count) (s .low) load → high ≡ highWith (s .count) (s .high) load
+    (start : ℕ) → loads ≡ pushed (s .loads) (s .count) load → low ≡ lowWith (s .count) (s .low) load → high ≡ highWith (s .count) (s .high) load
     → start ≡ cond (eqb (s .count) 0) time (s .start)
-    → live ≡ cond (eqb (s .count) 0 && eqb (s .oldest) (s .current)) time (s .live)
     → _≡_ {A = State} (record {
       oldest = s .oldest;
       current = s .current;
       count = s .count + 1;
       buckets = buckets;
-      next = time + 1;
-      live = live;
+      next = time;
       heads = s .heads;
       loads = loads;
       page = page;
@@ -159,7 +157,7 @@ pub counted-made : (s : State) (time : ℕ) (load : ℤ) (buckets : ℕ) (page s
       high = high;
     }) (stateGiven s time load buckets page section)
 unfolding stateGiven
-counted-made s time load buckets page section loads low high start live a b c d e = rw (a, b, c, d, e)
+counted-made s time load buckets page section loads low high start a b c d = rw (a, b, c, d)
 
 pub put-made : (nand nor nand' nor' : List ℕ) (s s' : State) (slots time : ℕ) (z load : ℤ) (note : List ℕ) (p : Tree.Plan)
     (buckets : ℕ) (page section : List ℕ)
@@ -168,5 +166,6 @@ pub put-made : (nand nor nand' nor' : List ℕ) (s s' : State) (slots time : ℕ
     → section ≡ cond (fillsSection s) emptySection (bloomWith s load)
     → buckets ≡ bucketsAfter p (s .buckets) → s' ≡ stateGiven s time z buckets page section
     → world nand' nor' s' ≡ putWorld (world nand nor s) slots time load note p
-unfolding putWorld stateWith nandWith norWith stateGiven
-put-made nand nor nand' nor' s s' slots time z load note p buckets page section k a b c d e f = rw (a, b, f, c, d, e, k)
+unfolding putWorld stateWith liveWith nandWith norWith stateGiven
+put-made nand nor nand' nor' s s' slots time z load note p buckets page section k a b c d e f =
+    let last : time + 0 ≡ time = omega arith in rw (last, a, b, f, c, d, e, k)

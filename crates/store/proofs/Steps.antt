@@ -1,19 +1,17 @@
 -- What the state's methods make, field by field, is what the definitions make. Assumes nothing.
-use mathlib.Core.Path.{_≡_, ap, _∙_}
+use mathlib.Core.Path.{_≡_}
 use mathlib.Core.List.{List}
-use Prim.Native.Nat.{ℕ, _+_, _-_, _*_, _<_}
+use Prim.Native.Nat.{ℕ, _+_, _-_}
 use native.Mathlib.Omega.{arith}
 use lib.IntN.{ℤ, pos}
 use lib.ListN.{length, replicate}
-use Rattle.codec.proofs.Areas.{length-part}
-use Rattle.flash.specs.Chip.{slotOf, pageStart, pageOf, pagesOf, chipErased, erasedPage}
+use Rattle.flash.specs.Chip.{slotOf, chipErased, erasedPage}
 use Rattle.lift.specs.Limits.{stored}
 use Rattle.bloom.specs.Bloom.{emptySection}
+use Rattle.form.specs.declared.Form.the-variants.{New}
 use Rattle.skiplist.specs.declared.Pointer.{Pointer}
 use Rattle.skiplist.specs.Skip.{none, pointer, levelOf, headsAfter}
 use Rattle.segment.specs.declared.Closing.{Closing}
-use Rattle.segment.specs.declared.Header.{Header}
-use Rattle.segment.specs.Header.{headerIn}
 use Rattle.segment.specs.Pages.{closeProgrammed}
 use Rattle.bounds.specs.Lifts.{noLoads}
 use Rattle.store.specs.declared.State.{State}
@@ -28,7 +26,6 @@ pub formatted-made : (heads : List Pointer) (loads : List ℤ) (page bloom : Lis
       count = 0;
       buckets = 0;
       next = 0;
-      live = 0;
       heads = heads;
       loads = loads;
       page = page;
@@ -42,37 +39,26 @@ formatted-made heads loads page bloom p q r t = rw (p, q, r, t)
 
 pub closing-made : (s : State) (low high : ℕ) → low ≡ stored (s .low) → high ≡ stored (s .high)
     → _≡_ {A = Closing} (record {
+      form = New;
       serial = s .current;
       count = s .count;
       buckets = s .buckets;
       start = s .start;
-      end = s .next - 1;
+      end = s .next;
       low = low;
       high = high;
       heads = s .heads;
       page = s .page;
       bloom = s .bloom;
-    }) (closing s)
+    }) (closing New s)
 unfolding closing
-closing-made s low high p q = rw (p, q)
-
--- ---- a header in NAND
-
-pub header-there : (nand : List ℕ) (slots slot : ℕ) (h : List ℕ) → length nand ≡ slots * 16384 → slot < slots
-    → h ≡ pagesOf nand slot 31 1 → length h ≡ 512
-header-there nand slots slot h size there e = ap length e ∙ length-part nand (pageStart slot 31) 512 (omega arith)
-
-pub header-read : (nand : List ℕ) (slots serial before slot : ℕ) (h : List ℕ) (r : Header) → slot ≡ slotOf serial slots
-    → h ≡ pagesOf nand slot 31 1
-    → r ≡ headerIn h slots before → r ≡ headerIn (pageOf nand (slotOf serial slots) 31) slots before
-header-read nand slots serial before slot h r e f g =
-    g ∙ ap (λ (p : List ℕ). headerIn p slots before) (f ∙ ap (λ (t : ℕ). pageOf nand t 31) e)
+closing-made s low high p q = let e : s .next - 0 ≡ s .next = omega arith in rw (p, q, e)
 
 -- ---- a close
 
 pub moved-made : (s : State) (slot level : ℕ) (p : Pointer) (heads : List Pointer) (loads : List ℤ) (page bloom : List ℕ)
     → level ≡ levelOf (s .current)
-    → p ≡ pointer slot (s .start) → heads ≡ headsAfter (s .heads) level p → loads ≡ noLoads → page ≡ erasedPage
+    → p ≡ pointer slot (s .current) (s .start) → heads ≡ headsAfter (s .heads) level p → loads ≡ noLoads → page ≡ erasedPage
     → bloom ≡ emptySection
     → _≡_ {A = State} (record {
       oldest = s .oldest;
@@ -80,7 +66,6 @@ pub moved-made : (s : State) (slot level : ℕ) (p : Pointer) (heads : List Poin
       count = 0;
       buckets = 0;
       next = s .next;
-      live = s .live;
       heads = heads;
       loads = loads;
       page = page;
@@ -88,13 +73,13 @@ pub moved-made : (s : State) (slot level : ℕ) (p : Pointer) (heads : List Poin
       start = 0;
       low = pos 0;
       high = pos 0;
-    }) (movedOn s slot)
+    }) (movedOn New s slot)
 unfolding movedOn
 moved-made s slot level p heads loads page bloom e f g h i j = rw (g, h, i, j, e, f)
 
 module _ (nand nor nand' nor' : List ℕ) (s s' : State) (slots slot : ℕ) (c : Closing) where
   -- NAND programmed, NOR erased, the next serial open
-  pub closed-made : slot ≡ slotOf (s .current) slots → c ≡ closing s → nand' ≡ closeProgrammed nand nor slot c
-      → nor' ≡ chipErased (length nor) → s' ≡ movedOn s slot → world nand' nor' s' ≡ closeWorld (world nand nor s) slots
+  pub closed-made : slot ≡ slotOf (s .current) slots → c ≡ closing New s → nand' ≡ closeProgrammed nand nor slot c
+      → nor' ≡ chipErased (length nor) → s' ≡ movedOn New s slot → world nand' nor' s' ≡ closeWorld (world nand nor s) slots
   unfolding closeWorld
   closed-made e f g h i = rw (g, h, i, f, e)

@@ -20,12 +20,11 @@ use Rattle.search.proofs.Most.{found-most}
 use Rattle.bounds.specs.Grounds.{nandBad, norBad, queryGround}
 use Rattle.bounds.proofs.Within as Within
 use Rattle.store.specs.Bounds.{withinBounds}
-use Rattle.store.specs.World.{World}
-use Rattle.store.specs.Calls.{boundsGround}
-use Rattle.store.specs.Queries.{logOf, queryOf, askedGround, searchGround, tallyOutcome}
+use Rattle.store.specs.World.{World, livenessOf}
+use Rattle.store.specs.Queries.{logOf, queryOf, searchGround, tallyOutcome}
 use Rattle.store.proofs.Rows.{row-none}
-use Rattle.store.proofs.Grounds.{standing}
-use Rattle.store.proofs.Asked.{asked}
+use Rattle.store.proofs.Grounds.{standing-in}
+use Rattle.store.proofs.Asked.{asked-in}
 
 module _ (w : World) (slots t1 t2 : ℕ) where
   abbrev tallyGround : ℕ
@@ -33,7 +32,8 @@ module _ (w : World) (slots t1 t2 : ℕ) where
 
   abbrev rowsFound : Option (List (List ℕ))
   rowsFound =
-      foundRows (w .nand) (w .nor) (w .state .page) (logOf (w .state) slots) (queryOf t1 t2 (negsuc 49999) (pos 100000))
+      foundRows (w .nand) (w .nor) (w .state .page) (logOf (w .state) slots) (livenessOf w)
+      (queryOf t1 t2 (negsuc 49999) (pos 100000))
 
   -- a tally is refused, or counts rows that a search found
   tally-cases : (P : TallyAnswer → Type 0) → ((n : ℕ) → (n ≡ 0 → ⊥) → P (record { number = n; counts = noCounts }))
@@ -59,13 +59,14 @@ module _ (w : World) (slots t1 t2 : ℕ) where
     last : t2 ≤ 999999999999999
 
   fits : tallyGround ≡ 0 → Fits
-  unfolding searchGround boundsGround queryGround
+  unfolding searchGround queryGround
   fits z =
       let query = queryGround t1 t2 (negsuc 49999) (pos 100000) in
-      let r = row-none (nandBad (length (w .nand)) slots) (norBad (length (w .nor))) (not (withinBounds (w .state) slots)) query z in
+      let bad = not (withinBounds (w .form) (w .state) (w .live) slots) in
+      let r = row-none (nandBad (length (w .nand)) slots) (norBad (length (w .nor))) bad query z in
       let times = not-false (timeOk t1 && timeOk t2) (Within.ground-not 4 (not (timeOk t1 && timeOk t2)) _ (λ t. omega arith) (r .1)) in
       record {
-        few = standing (w .state) (length (w .nand)) (length (w .nor)) slots (r .0) .chips .most;
+        few = standing-in (w .form) (w .state) (w .live) (length (w .nand)) (length (w .nor)) slots (r .0) .chips .most;
         first = leb-true t1 999999999999999 (Within.and-left (timeOk t1) (timeOk t2) times);
         last = leb-true t2 999999999999999 (Within.and-right (timeOk t1) (timeOk t2) times);
       }
@@ -73,15 +74,15 @@ module _ (w : World) (slots t1 t2 : ℕ) where
   -- the lifts counted, as many as the rows
   counted-most : tallyGround ≡ 0 → (rows : List (List ℕ)) → rowsFound ≡ some rows
       → total (countsOf (rowCodes rows)) ≤ mostFound slots
-  unfolding searchGround askedGround
+  unfolding searchGround
   counted-most z rows e =
-      let a = asked (w .state) (w .nand) (w .nor) slots t1 t2 (negsuc 49999) (pos 100000) z in
+      let a = asked-in (w .form) (w .state) (w .live) (w .nand) (w .nor) slots t1 t2 (negsuc 49999) (pos 100000) z in
       omega (
         arith,
         counts-total (rowCodes rows),
         length-map rows (λ r. codeAt r 0),
-        found-most (w .nand) (w .nor) (w .state .page) (logOf (w .state) slots) (queryOf t1 t2 (negsuc 49999) (pos 100000))
-            (a .sound) rows e,
+        found-most (w .nand) (w .nor) (w .state .page) (logOf (w .state) slots) (livenessOf w)
+            (queryOf t1 t2 (negsuc 49999) (pos 100000)) (a .sound) rows e,
       )
 
   -- ---- what is known of every answer

@@ -2,7 +2,7 @@
 -- state.
 -- Assumes nothing.
 use mathlib.Core.Bool.{Bool, true, false, cond, not, _&&_, _||_}
-use mathlib.Core.List.{List, [], map}
+use mathlib.Core.List.{List, map}
 use Prim.Native.Nat.{ℕ, _-_, _/_}
 use lib.Dec.{eqb, leb, ltb}
 use lib.IntN.{ℤ, pos}
@@ -11,6 +11,8 @@ use Rattle.codec.specs.Area.{part, allOnes}
 use Rattle.flash.specs.Chip.{slotOf, pageErased, chipErased, erasedPage, norTree}
 use Rattle.lift.specs.Limits.{stored}
 use Rattle.bloom.specs.Bloom.{emptySection}
+use Rattle.form.specs.declared.Form.{Form}
+use Rattle.form.specs.declared.Form.the-variants.{Old, New}
 use Rattle.skiplist.specs.Skip.{none}
 use Rattle.segment.specs.Pages.{closeErased}
 use Rattle.tree.specs.Plan.{Plan, planOn, isDamaged, isNoRoom}
@@ -18,10 +20,9 @@ use Rattle.tree.specs.Writes.{writesOf, allClear}
 use Rattle.bounds.specs.Grounds.{ground, nandBad, norBad, formatGround, liftGround}
 use Rattle.bounds.specs.Lifts.{noLoads}
 use Rattle.store.specs.declared.State.{State}
-use Rattle.store.specs.declared.Renewal.{Renewal}
 use Rattle.store.specs.Bounds.{withinBounds}
 use Rattle.store.specs.World.{World, world, closeWorld, dropWorld, putWorld}
-use Rattle.store.specs.World.{nextOldest, closedRemains, liveAfter, fillsPage, fillsSection, sectionStart}
+use Rattle.store.specs.World.{nextOldest, closedRemains, fillsPage, fillsSection, sectionStart}
 
 -- a call's number, with the chips and the state that it leaves
 pub record Outcome : Type 0 where
@@ -45,7 +46,6 @@ formatted = record {
   count = 0;
   buckets = 0;
   next = 0;
-  live = 0;
   heads = replicate 4 none;
   loads = noLoads;
   page = erasedPage;
@@ -56,23 +56,23 @@ formatted = record {
 }
 
 -- "Format erases both chips"; a refused one hands back the formatted state and leaves the chips
-unfoldable pub formatOutcome : List ℕ → List ℕ → ℕ → Outcome
-formatOutcome nand nor slots =
+unfoldable pub formatOutcome : Form → List ℕ → List ℕ → ℕ → Outcome
+formatOutcome f nand nor slots =
     outcome (formatGround (length nand) (length nor) slots)
-    (record { nand = nand; nor = nor; state = formatted })
-    (record { nand = chipErased (length nand); nor = chipErased (length nor); state = formatted })
+    (record { form = f; nand = nand; nor = nor; state = formatted; live = 0 })
+    (record { form = f; nand = chipErased (length nand); nor = chipErased (length nor); state = formatted; live = 0 })
 
 -- ---- grounds 1 to 3, of every other call
 
 abbrev pub stateGround : World → ℕ → ℕ → ℕ
 stateGround w slots rest =
     ground 1 (nandBad (length (w .nand)) slots) (ground 2 (norBad (length (w .nor)))
-    (ground 3 (not (withinBounds (w .state) slots)) rest))
+    (ground 3 (not (withinBounds (w .form) (w .state) (w .live) slots)) rest))
 
 -- these alone, by the chips' lengths
 unfoldable pub boundsGround : State → ℕ → ℕ → ℕ → ℕ
 boundsGround s nandLength norLength slots =
-    ground 1 (nandBad nandLength slots) (ground 2 (norBad norLength) (ground 3 (not (withinBounds s slots)) 0))
+    ground 1 (nandBad nandLength slots) (ground 2 (norBad norLength) (ground 3 (not (withinBounds New s 0 slots)) 0))
 
 -- ---- close
 
@@ -89,14 +89,14 @@ closeOutcome w slots = outcome (closeGround w slots) w (closeWorld w slots)
 
 -- ---- drop
 
+-- form 0 reads a header at a drop; in form 1 "a drop reads no header"
+abbrev pub readsHeader : Form → Bool
+readsHeader Old = true
+readsHeader New = false
+
 -- the header that a drop reads is damaged
 abbrev pub dropDamage : World → ℕ → Bool
-dropDamage w slots = closedRemains (w .state) && not (nextOldest w slots .good)
-
--- what a drop finds in NAND: no damage, and the oldest live time after it
-unfoldable pub renewal : List ℕ → State → ℕ → Renewal
-renewal nand s slots =
-    record { good = not (dropDamage (world nand [] s) slots); live = liveAfter (world nand [] s) slots }
+dropDamage w slots = readsHeader (w .form) && (closedRemains (w .state) && not (nextOldest w slots .good))
 
 -- no closed segment; damage in the header of the segment that becomes oldest
 unfoldable pub dropGround : World → ℕ → ℕ

@@ -14,12 +14,13 @@ use Rattle.tree.specs.Plan.{isNoRoom}
 use Rattle.tree.specs.Writes.{writesOf, allWritten}
 use Rattle.grow.specs.declared.Plan.{Plan}
 use Rattle.grow.specs.Meaning.{meaning, Fitting}
+use Rattle.form.specs.declared.Form.the-variants.{New}
 use Rattle.bounds.specs.Grounds.{ground, nandBad, norBad, liftGround}
 use Rattle.bounds.specs.Lifts.{pushed, lowWith, highWith}
 use Rattle.store.specs.declared.State.{State}
 use Rattle.store.specs.Bounds.{withinBounds}
 use Rattle.store.specs.World.{World, dropWorld, putWorld, pageWith, bloomWith, fillsPage, fillsSection, sectionStart}
-use Rattle.store.specs.Calls.{boundsGround, planOf, roomWorld, dropDamage, appendDamage, appendUnerased}
+use Rattle.store.specs.Calls.{boundsGround, planOf, roomWorld, appendDamage, appendUnerased}
 
 -- the code's plan fits the state: a full segment has lifts, any other has room for one
 pub record Suits (s : State) (p : Plan) : Type 0 where
@@ -31,14 +32,13 @@ pub record Suits (s : State) (p : Plan) : Type 0 where
 pub record Accepted (w : World) (slots time : ℕ) (load : ℤ) (p : Plan) : Type 0 where
   pub bounds : boundsGround (w .state) (length (w .nand)) (length (w .nor)) slots ≡ 0
   pub suits : Suits (w .state) p
-  pub timely : time ≤ 999999999999999
   pub load-ok : loadOk load ≡ true
   pub is : meaning p ≡ planOf w load
 
 -- grounds 1 to 8 of an append
 unfoldable pub entryGround : State → ℕ → ℕ → ℕ → ℕ → ℤ → ℕ
 entryGround s nandLength norLength slots time load =
-    ground 1 (nandBad nandLength slots) (ground 2 (norBad norLength) (ground 3 (not (withinBounds s slots))
+    ground 1 (nandBad nandLength slots) (ground 2 (norBad norLength) (ground 3 (not (withinBounds New s 0 slots))
     (liftGround time load (s .next) (s .current) 0)))
 
 -- grounds 10 and 11 of an append with the plan p
@@ -53,10 +53,6 @@ dropsFirst s slots = eqb (s .count) 0 && leb slots (s .current - s .oldest)
 -- the lift goes into the open segment as it is and fills no page
 unfoldable pub isPlain : State → ℕ → Tree.Plan → Bool
 isPlain s slots p = not ((isNoRoom p || dropsFirst s slots) || fillsPage s)
-
--- that drop, if it is due, meets no damage
-unfoldable pub forcedGood : World → ℕ → Bool
-forcedGood w slots = not (dropsFirst (w .state) slots && dropDamage w slots)
 
 -- that drop, if it is due
 unfoldable pub dropDue : World → ℕ → World
@@ -79,8 +75,7 @@ stateGiven s time load buckets page bloom = record {
   current = s .current;
   count = s .count + 1;
   buckets = buckets;
-  next = time + 1;
-  live = cond (eqb (s .count) 0 && eqb (s .oldest) (s .current)) time (s .live);
+  next = time;
   heads = s .heads;
   loads = pushed (s .loads) (s .count) load;
   page = page;

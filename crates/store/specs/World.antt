@@ -13,7 +13,10 @@ use Rattle.flash.specs.Chip.{slotOf, pageOf, programmed, slotErased, chipErased
 use Rattle.lift.specs.Limits.{stored}
 use Rattle.lift.specs.Record.{recordBytes}
 use Rattle.bloom.specs.Bloom.{noted, emptySection}
-use Rattle.skiplist.specs.Skip.{pointer, levelOf, headsAfter}
+use Rattle.form.specs.declared.Form.{Form}
+use Rattle.form.specs.declared.Form.the-variants.{Old, New}
+use Rattle.form.specs.Forms.{step}
+use Rattle.skiplist.specs.Skip.{Live, pointing, levelOf, headsAfter}
 use Rattle.segment.specs.declared.Closing.{Closing}
 use Rattle.segment.specs.declared.Header.{Header}
 use Rattle.segment.specs.Header.{headerIn}
@@ -23,25 +26,45 @@ use Rattle.tree.specs.Writes.{writesOf, allWritten, bucketsAfter}
 use Rattle.bounds.specs.Lifts.{noLoads, pushed, lowWith, highWith}
 use Rattle.store.specs.declared.State.{State}
 
--- both chips and the state
+-- a store of either form: both chips, the state and, in form 0, the oldest live time, which is 0 in form 1
 pub record World : Type 0 where
+  pub form : Form
   pub nand : List ℕ
   pub nor : List ℕ
   pub state : State
+  pub live : ℕ
 
+-- a store of form 1, which the calls are about
 abbrev pub world : List ℕ → List ℕ → State → World
-world nand nor s = record { nand = nand; nor = nor; state = s }
+world nand nor s = record { form = New; nand = nand; nor = nor; state = s; live = 0 }
+
+-- an oldest live time, which only form 0 has
+abbrev pub liveTime : Form → ℕ → ℕ
+liveTime Old t = t
+liveTime New t = 0
+
+-- what a pointer's liveness is judged by: the oldest live time, or the oldest retained serial
+abbrev pub leastBy : Form → ℕ → ℕ → ℕ
+leastBy Old live oldest = live
+leastBy New live oldest = oldest
+
+abbrev pub oldestBy : Form → ℕ → ℕ → Live
+oldestBy f live oldest = record { form = f; oldest = leastBy f live oldest }
+
+abbrev pub livenessOf : World → Live
+livenessOf w = oldestBy (w .form) (w .live) (w .state .oldest)
 
 -- ---- close
 
--- what a close needs of the state: "The end time is next time less 1"
-unfoldable pub closing : State → Closing
-closing s = record {
+-- what a close needs of the state: "The end time is next time less 1" in form 0, "next time" in form 1
+unfoldable pub closing : Form → State → Closing
+closing f s = record {
+  form = f;
   serial = s .current;
   count = s .count;
   buckets = s .buckets;
   start = s .start;
-  end = s .next - 1;
+  end = s .next - step f;
   low = stored (s .low);
   high = stored (s .high);
   heads = s .heads;
@@ -52,15 +75,14 @@ closing s = record {
 -- "A close leaves count, buckets, last loads, start, low and high 0, the page buffer 255 and the Bloom buffer 0"; it "moves on
 -- one serial",
 -- and the heads up to its level point to the segment
-unfoldable pub movedOn : State → ℕ → State
-movedOn s slot = record {
+unfoldable pub movedOn : Form → State → ℕ → State
+movedOn f s slot = record {
   oldest = s .oldest;
   current = s .current + 1;
   count = 0;
   buckets = 0;
   next = s .next;
-  live = s .live;
-  heads = headsAfter (s .heads) (levelOf (s .current)) (pointer slot (s .start));
+  heads = headsAfter (s .heads) (levelOf (s .current)) (pointing f slot (s .current) (s .start));
   loads = noLoads;
   page = erasedPage;
   bloom = emptySection;
@@ -72,34 +94,36 @@ movedOn s slot = record {
 -- "Closing programs a part-filled lift page, tree, Bloom and header, erases NOR and moves on one serial."
 unfoldable pub closeWorld : World → ℕ → World
 closeWorld w slots = record {
-  nand = closeProgrammed (w .nand) (w .nor) (slotOf (w .state .current) slots) (closing (w .state));
+  form = w .form;
+  nand = closeProgrammed (w .nand) (w .nor) (slotOf (w .state .current) slots) (closing (w .form) (w .state));
   nor = chipErased (length (w .nor));
-  state = movedOn (w .state) (slotOf (w .state .current) slots);
+  state = movedOn (w .form) (w .state) (slotOf (w .state .current) slots);
+  live = w .live;
 }
 
 -- ---- drop
 
--- the header of the closed segment that becomes oldest
+-- form 0: the header of the closed segment that becomes oldest, which a drop reads
 abbrev pub nextOldest : World → ℕ → Header
-nextOldest w slots = headerIn (pageOf (w .nand) (slotOf (w .state .oldest + 1) slots) 31) slots (w .state .current)
+nextOldest w slots = headerIn (w .form) (pageOf (w .nand) (slotOf (w .state .oldest + 1) slots) 31) slots (w .state .current)
 
 -- a closed segment becomes oldest, and not the open one
 abbrev pub closedRemains : State → Bool
 closedRemains s = ltb (s .oldest + 1) (s .current)
 
--- the oldest live time after a drop: "the start of the oldest retained lift, or next time if there is none"
+-- form 0: the oldest live time after a drop: "the start of the oldest retained lift, or next time if there is none"
 unfoldable pub liveAfter : World → ℕ → ℕ
 liveAfter w slots =
-    cond (closedRemains (w .state)) (nextOldest w slots .start) (cond (eqb (w .state .count) 0) (w .state .next) (w .state .start))
+    liveTime (w .form)
+    (cond (closedRemains (w .state)) (nextOldest w slots .start) (cond (eqb (w .state .count) 0) (w .state .next) (w .state .start)))
 
-unfoldable pub withoutOldest : State → ℕ → State
-withoutOldest s live = record {
+unfoldable pub withoutOldest : State → State
+withoutOldest s = record {
   oldest = s .oldest + 1;
   current = s .current;
   count = s .count;
   buckets = s .buckets;
   next = s .next;
-  live = live;
   heads = s .heads;
   loads = s .loads;
   page = s .page;
@@ -112,9 +136,11 @@ withoutOldest s live = record {
 -- "Drop erases the oldest closed segment."
 unfoldable pub dropWorld : World → ℕ → World
 dropWorld w slots = record {
+  form = w .form;
   nand = slotErased (w .nand) (slotOf (w .state .oldest) slots);
   nor = w .nor;
-  state = withoutOldest (w .state) (liveAfter w slots);
+  state = withoutOldest (w .state);
+  live = liveAfter w slots;
 }
 
 -- ---- put
@@ -137,16 +163,15 @@ fillsSection s = eqb (s .count % 64) 63
 abbrev pub sectionStart : State → ℕ
 sectionStart s = 4608 + s .count / 64 * 128
 
--- the state with a lift more: next time is "last accepted + 1"; at count 0 the lift starts the segment, and is the oldest retained
--- one where no closed segment is left
-unfoldable pub stateWith : State → ℕ → ℤ → List ℕ → Plan → State
-stateWith s time load note p = record {
+-- the state with a lift more: next time is "last accepted + 1" in form 0, the last accepted in form 1; at count 0 the lift starts
+-- the segment
+unfoldable pub stateWith : Form → State → ℕ → ℤ → List ℕ → Plan → State
+stateWith f s time load note p = record {
   oldest = s .oldest;
   current = s .current;
   count = s .count + 1;
   buckets = bucketsAfter p (s .buckets);
-  next = time + 1;
-  live = cond (eqb (s .count) 0 && eqb (s .oldest) (s .current)) time (s .live);
+  next = time + step f;
   heads = s .heads;
   loads = pushed (s .loads) (s .count) load;
   page = cond (fillsPage s) erasedPage (pageWith s time load note);
@@ -156,6 +181,10 @@ stateWith s time load note p = record {
   high = highWith (s .count) (s .high) load;
 }
 
+-- form 0: it is the oldest retained one where no closed segment is left
+unfoldable pub liveWith : World → ℕ → ℕ
+liveWith w time = liveTime (w .form) (cond (eqb (w .state .count) 0 && eqb (w .state .oldest) (w .state .current)) time (w .live))
+
 -- The lift goes last into the open segment, its entry where the plan says. "A page goes to NAND when its sixteenth lift arrives,
 -- and a
 -- Bloom section to NOR at its sixty-fourth; that buffer is then made empty."
@@ -164,9 +193,11 @@ putWorld w slots time load note p =
     let s = w .state in
     let entered = allWritten (w .nor) (writesOf p (s .buckets) (stored load) (s .count)) in
     record {
+      form = w .form;
       nand =
           cond (fillsPage s) (programmed (w .nand) (slotOf (s .current) slots) (s .count / 16) (pageWith s time load note))
           (w .nand);
       nor = cond (fillsSection s) (splice entered (sectionStart s) (bloomWith s load)) entered;
-      state = stateWith s time load note p;
+      state = stateWith (w .form) s time load note p;
+      live = liveWith w time;
     }

@@ -5,7 +5,7 @@ use crate::State;
 use crate::parts;
 use grow::Plan;
 ghost use mathlib.Core.Path.{_≡_};
-ghost use mathlib.Core.Bool.{true, false, cond, not, _&&_};
+ghost use mathlib.Core.Bool.{true, false, cond};
 ghost use mathlib.Core.List.{List, []};
 ghost use Prim.Native.Nat.{ℕ, _+_, _-_, _*_, _%_, _≤_, _<_};
 ghost use lib.IntN.{ℤ};
@@ -16,8 +16,8 @@ ghost use Rattle.bloom.specs.Bloom.{emptySection};
 ghost use Rattle.tree.specs.Plan.{noRoom, isDamaged, isNoRoom};
 ghost use Rattle.grow.specs.Meaning.{meaning, Fitting};
 ghost use Rattle.bounds.specs.Bounds.{loadsOk};
-ghost use Rattle.store.specs.World.{world, closeWorld, putWorld, pageWith, bloomWith, fillsPage, fillsSection};
-ghost use Rattle.store.specs.Calls.{answered, appendGround, appendOutcome, boundsGround, dropDamage, planOf, roomWorld, norClear};
+ghost use Rattle.store.specs.World.{world, putWorld, pageWith, bloomWith, fillsPage, fillsSection};
+ghost use Rattle.store.specs.Calls.{answered, appendGround, appendOutcome, boundsGround, planOf, roomWorld, norClear};
 ghost use Rattle.store.specs.Pieces as Pieces;
 ghost use Rattle.store.specs.Pieces.{Suits, Accepted, isPlain, laterGround, dropDue, stateGiven, entryGround};
 
@@ -59,48 +59,12 @@ impl State {
         (self.count == 0) & (slots <= (self.current - self.oldest) as u64)
     }
 
-    // No damage in the header that a forced drop reads.
-    fn drop_good(self, nand: &[u8], slots: u64) -> bool
-        requires { ⌜ (length (now nand) ≡ slots * 16384) × (1 ≤ slots) × (self .oldest ≤ self .current) ⌝ }
-        ensures { λ r. ⌜ r ≡ not (Pieces.dropsFirst self slots && dropDamage (world (now (nand .entry)) [] self) slots) ⌝ }
-    {
-        if !self.drops_first(slots) {
-            return true;
-        }
-        let r = self.renewal(nand, slots);
-        r.good
-    }
-
-    // The same after a close in this call: of two slots the header is the one to be programmed.
-    fn closing_good(self, nand: &[u8], slots: u64) -> bool
-        requires { ⌜ (boundsGround self (length (now nand)) 6144 slots ≡ 0) × (1 ≤ self .count) ⌝ }
-        ensures { λ r. ⌜ ((nor : List ℕ) → length nor ≡ 6144 → r
-            ≡ Pieces.forcedGood (closeWorld (world (now (nand .entry)) nor self) slots) slots) ⌝ }
-    {
-        let current = self.current + 1;
-        let held = (current - self.oldest) as u64;
-        if held < slots {
-            return true;
-        }
-        if slots == 2 {
-            let c = self.closing();
-            let h = segment::header_page(c);
-            let r = segment::header_in(&h, slots, current);
-            return r.good;
-        }
-        let r = crate::header_of(nand, slots, self.oldest + 1, current);
-        r.good
-    }
-
-    // Grounds 10 and 11 of an append that closes first.
+    // Grounds 10 and 11 of an append that closes first: the close erases NOR, so there is no damage.
     fn blocked_closing(self, nand: &[u8], slots: u64) -> u8
-        requires { ⌜ (boundsGround self (length (now nand)) 6144 slots ≡ 0) × (1 ≤ self .count) ⌝ }
+        requires { ⌜ boundsGround self (length (now nand)) 6144 slots ≡ 0 ⌝ }
         ensures { λ r. ⌜ ((nor : List ℕ) (load : ℤ) → length nor ≡ 6144 → r
             ≡ laterGround (world (now (nand .entry)) nor self) slots load noRoom) ⌝ }
     {
-        if !self.closing_good(nand, slots) {
-            return 10;
-        }
         let slot = flash::slot_of(self.current, slots);
         if !segment::pages_erased(nand, slot, self.count, self.buckets) {
             return 11;
@@ -124,9 +88,7 @@ impl State {
         ensures { λ r. ⌜ ((load : ℤ) → code ≡ stored load → r
             ≡ laterGround (world (now (nand .entry)) (now (nor .entry)) self) slots load (meaning p)) ⌝ }
     {
-        let good = self.drop_good(nand, slots);
-        let clear = self.is_clear(nor, code, p);
-        if !(good & clear) {
+        if !self.is_clear(nor, code, p) {
             return 10;
         }
         let slot = flash::slot_of(self.current, slots);
@@ -171,8 +133,7 @@ impl State {
         if !self.drops_first(slots) {
             return self;
         }
-        let r = self.renewal(nand, slots);
-        self.dropped(nand, slots, r.live)
+        self.dropped(nand, slots)
     }
 
     // The record goes into the page buffer, and a full page to NAND.
@@ -228,7 +189,7 @@ impl State {
         page: [u8; 512],
         section: [u8; 128],
     ) -> State
-        requires { ⌜ (self .count ≤ 320) × (time ≤ 999999999999999) ⌝ }
+        requires { ⌜ self .count ≤ 320 ⌝ }
         ensures { λ r. ⌜ r ≡ stateGiven self time load buckets page section ⌝ }
     {
         let heads = self.heads;
@@ -237,14 +198,12 @@ impl State {
         let low = bounds::low_after(self.count, self.low, load);
         let high = bounds::high_after(self.count, self.high, load);
         let start = parts::start_after(self.count, self.start, time);
-        let live = parts::live_after(self.count, self.oldest, self.current, self.live, time);
         State {
             oldest: self.oldest,
             current: self.current,
             count: self.count + 1,
             buckets: buckets,
-            next: time + 1,
-            live: live,
+            next: time,
             heads: heads,
             loads: loads,
             page: page,
@@ -268,7 +227,7 @@ impl State {
     ) -> State
         requires { ⌜ (length (now nand) ≡ slots * 16384) × (length (now nor) ≡ 6144) × (1 ≤ slots) × (1 ≤ self .current) ⌝ }
         requires { ⌜ (self .count ≤ 320) × (self .buckets ≤ 36) × Fitting (self .buckets) p ⌝ }
-        requires { ⌜ (time ≤ 999999999999999) × (loadOk load ≡ true) ⌝ }
+        requires { ⌜ loadOk load ≡ true ⌝ }
         ensures { λ r. ⌜ world (now (nand .exit)) (now (nor .exit)) r
             ≡ putWorld (world (now (nand .entry)) (now (nor .entry)) self) slots time load note (meaning p) ⌝ }
     {
@@ -291,7 +250,7 @@ impl State {
         p: Plan,
     ) -> State
         requires { ⌜ (boundsGround self (length (now nand)) (length (now nor)) slots ≡ 0) × Suits self p ⌝ }
-        requires { ⌜ (time ≤ 999999999999999) × (loadOk load ≡ true) ⌝ }
+        requires { ⌜ loadOk load ≡ true ⌝ }
         ensures { λ r. ⌜ world (now (nand .exit)) (now (nor .exit)) r
             ≡ Pieces.carriedOut (world (now (nand .entry)) (now (nor .entry)) self) slots time load note (meaning p) ⌝ }
     {

@@ -1,23 +1,22 @@
-// The store (document 01, "State", "Segments", "Twelve grounds"): its state by value, and the calls as methods.
+// The store (document 01, "State", "Segments", "Twelve grounds"; form 1 of document 02, W-202): its state by value, and the calls as
+// methods.
 pub mod append;
 pub mod parts;
 mod queries;
 
-use flash::Page;
+use form::Form;
 use segment::Closing;
-use segment::Header;
 use skiplist::Pointer;
 ghost use mathlib.Core.Path.{_≡_};
 ghost use mathlib.Core.Bool.{true};
 ghost use Prim.Native.Nat.{_+_, _-_, _*_, _^_, _≤_, _<_};
 ghost use lib.ListN.{length};
-ghost use Rattle.flash.specs.Chip.{slotOf, pageOf, slotErased};
+ghost use Rattle.flash.specs.Chip.{slotOf, slotErased};
 ghost use Rattle.lift.specs.Limits.{loadOk};
-ghost use Rattle.segment.specs.Header.{headerIn};
+ghost use Rattle.form.specs.declared.Form.the-variants.{New};
 ghost use Rattle.store.specs.Bounds.{headsOk, withinBounds};
 ghost use Rattle.store.specs.World as World;
 ghost use Rattle.store.specs.World.{world, closeWorld};
-ghost use Rattle.store.specs.Calls as Calls;
 ghost use Rattle.store.specs.Calls.{answered, formatted, boundsGround};
 ghost use Rattle.store.specs.Calls.{formatOutcome, closeOutcome, dropOutcome};
 
@@ -28,7 +27,6 @@ pub struct State {
     pub count: u16,
     pub buckets: u8,
     pub next: u64,
-    pub live: u64,
     pub heads: [Pointer; 4],
     pub loads: [i32; 13],
     pub page: [u8; 512],
@@ -44,12 +42,6 @@ pub struct Answer {
     pub state: State,
 }
 
-// What a drop of the oldest closed segment finds: no damage, and the oldest live time after it.
-pub struct Renewal {
-    pub good: bool,
-    pub live: u64,
-}
-
 fn heads_ok(heads: [Pointer; 4], slots: u64) -> bool
     ensures { λ r. ⌜ r ≡ headsOk heads slots ⌝ }
 {
@@ -58,16 +50,6 @@ fn heads_ok(heads: [Pointer; 4], slots: u64) -> bool
     let c = heads[2];
     let d = heads[3];
     a.in_slots(slots) & (b.in_slots(slots) & (c.in_slots(slots) & d.in_slots(slots)))
-}
-
-// The header of a closed serial, which is to be below the serial `before`.
-fn header_of(nand: &[u8], slots: u64, serial: u32, before: u32) -> Header
-    requires { ⌜ (length (now nand) ≡ slots * 16384) × (1 ≤ slots) × (1 ≤ serial) ⌝ }
-    ensures { λ r. ⌜ r ≡ headerIn (pageOf (now (nand .entry)) (slotOf serial slots) 31) slots before ⌝ }
-{
-    let slot = flash::slot_of(serial, slots);
-    let h = flash::pages_of(nand, slot, Page(segment::HEADER_PAGE), 1);
-    segment::header_in(h, slots, before)
 }
 
 impl State {
@@ -84,7 +66,6 @@ impl State {
             count: 0,
             buckets: 0,
             next: 0,
-            live: 0,
             heads: heads,
             loads: loads,
             page: page,
@@ -97,13 +78,13 @@ impl State {
 
     // Ground 3.
     fn within_bounds(self, slots: u64) -> bool
-        ensures { λ r. ⌜ r ≡ withinBounds self slots ⌝ }
+        ensures { λ r. ⌜ r ≡ withinBounds New self 0 slots ⌝ }
     {
         let heads = self.heads;
         let loads = self.loads;
         let a = bounds::serials_ok(self.oldest, self.current, self.count, slots);
         let b = bounds::counts_ok(self.current, self.count, self.buckets);
-        let c = bounds::times_ok(self.current, self.count, self.next, self.live, self.start);
+        let c = bounds::times_ok(self.current, self.count, self.next, self.start);
         let d = bounds::span_ok(self.count, self.low, self.high);
         let e = bounds::loads_ok(loads);
         let f = heads_ok(heads, slots);
@@ -126,8 +107,8 @@ impl State {
 
     // What a close needs.
     fn closing(self) -> Closing
-        requires { ⌜ (1 ≤ self .next) × (loadOk (self .low) ≡ true) × (loadOk (self .high) ≡ true) ⌝ }
-        ensures { λ r. ⌜ r ≡ World.closing self ⌝ }
+        requires { ⌜ (loadOk (self .low) ≡ true) × (loadOk (self .high) ≡ true) ⌝ }
+        ensures { λ r. ⌜ r ≡ World.closing New self ⌝ }
     {
         let heads = self.heads;
         let page = self.page;
@@ -135,11 +116,12 @@ impl State {
         let low = lift::stored(self.low);
         let high = lift::stored(self.high);
         Closing {
+            form: Form::New,
             serial: self.current,
             count: self.count,
             buckets: self.buckets,
             start: self.start,
-            end: self.next - 1,
+            end: self.next,
             low: low,
             high: high,
             heads: heads,
@@ -151,11 +133,11 @@ impl State {
     // The next serial opens; the segment that was open lies in `slot`.
     fn moved_on(mut self, slot: usize) -> State
         requires { ⌜ (slot < 65536) × (self .current < 2 ^ 32 - 1) ⌝ }
-        ensures { λ r. ⌜ r ≡ World.movedOn self slot ⌝ }
+        ensures { λ r. ⌜ r ≡ World.movedOn New self slot ⌝ }
     {
         let old = self.heads;
         let level = skiplist::level_of(self.current);
-        let p = Pointer::new(slot as u16, self.start);
+        let p = Pointer::new(slot as u16, self.current, self.start);
         let heads = skiplist::heads_after(old, level, p);
         let loads = bounds::no_loads();
         let page = parts::blank_page();
@@ -187,46 +169,20 @@ impl State {
     }
 
     // The oldest closed segment is erased.
-    fn dropped(mut self, nand: &mut [u8], slots: u64, live: u64) -> State
+    fn dropped(mut self, nand: &mut [u8], slots: u64) -> State
         requires { ⌜ (length (now nand) ≡ slots * 16384) × (1 ≤ slots) × (1 ≤ self .oldest) × (self .oldest < self .current) ⌝ }
         ensures { λ r. ⌜ (now (nand .exit) ≡ slotErased (now (nand .entry)) (slotOf (self .oldest) slots))
-            × (r ≡ World.withoutOldest self live) ⌝ }
+            × (r ≡ World.withoutOldest self) ⌝ }
     {
         let slot = flash::slot_of(self.oldest, slots);
         flash::erase_slot(nand, slot);
         self.oldest = self.oldest + 1;
-        self.live = live;
         self
-    }
-
-    // What a drop finds in the header of the closed segment that becomes oldest; the open segment has no header.
-    fn renewal(self, nand: &[u8], slots: u64) -> Renewal
-        requires { ⌜ (length (now nand) ≡ slots * 16384) × (1 ≤ slots) × (self .oldest < self .current) ⌝ }
-        ensures { λ r. ⌜ r ≡ Calls.renewal (now (nand .entry)) self slots ⌝ }
-    {
-        let serial = self.oldest + 1;
-        if serial < self.current {
-            let h = header_of(nand, slots, serial, self.current);
-            return Renewal {
-                good: h.good,
-                live: h.start,
-            };
-        }
-        if self.count == 0 {
-            return Renewal {
-                good: true,
-                live: self.next,
-            };
-        }
-        Renewal {
-            good: true,
-            live: self.start,
-        }
     }
 
     pub fn format(nand: &mut [u8], nor: &mut [u8], slots: u64) -> Answer
         ensures { λ r. ⌜ answered (r .number) (now (nand .exit)) (now (nor .exit)) (r .state)
-            ≡ formatOutcome (now (nand .entry)) (now (nor .entry)) slots ⌝ }
+            ≡ formatOutcome New (now (nand .entry)) (now (nor .entry)) slots ⌝ }
     {
         let n = bounds::chips_ground(nand.len(), nor.len(), slots);
         let s = State::new();
@@ -292,15 +248,7 @@ impl State {
                 state: self,
             };
         }
-        let r = self.renewal(nand, slots);
-        let good = r.good;
-        if !good {
-            return Answer {
-                number: 10,
-                state: self,
-            };
-        }
-        let s = self.dropped(nand, slots, r.live);
+        let s = self.dropped(nand, slots);
         Answer {
             number: 0,
             state: s,

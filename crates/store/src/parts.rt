@@ -116,7 +116,7 @@ pub fn section_after(nor: &mut [u8], count: u16, section: [u8; 128]) -> [u8; 128
     bloom::empty_section()
 }
 
-// The segment's start after a lift, and the oldest live time.
+// The segment's start after a lift.
 pub fn start_after(count: u16, start: u64, time: u64) -> u64
     ensures { λ r. ⌜ r ≡ cond (eqb count 0) time start ⌝ }
 {
@@ -124,13 +124,4 @@ pub fn start_after(count: u16, start: u64, time: u64) -> u64
         return time;
     }
     start
-}
-
-pub fn live_after(count: u16, oldest: u32, current: u32, live: u64, time: u64) -> u64
-    ensures { λ r. ⌜ r ≡ cond (eqb count 0 && eqb oldest current) time live ⌝ }
-{
-    if (count == 0) & (oldest == current) {
-        return time;
-    }
-    live
 }

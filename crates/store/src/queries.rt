@@ -21,7 +21,7 @@ impl State {
             count: self.count,
             buckets: self.buckets,
             start: self.start,
-            live: self.live,
+            oldest: self.oldest,
             heads,
         }
     }

@@ -43,7 +43,7 @@ fits area nand nor s slots time load p e a =
       fitting = a .suits .fits;
     }
 
-module _ (area nand nor : List ℕ) (s : State) (slots time : ℕ) (z load : ℤ) (note : List ℕ) (n : ℕ) (size : length area ≡ 775)
+module _ (area nand nor : List ℕ) (s : State) (slots time : ℕ) (z load : ℤ) (note : List ℕ) (n : ℕ) (size : length area ≡ 783)
     (e : s ≡ stateIn area) (k : z ≡ load) (number : n ≡ appendGround (world nand nor s) slots time z) where
   abbrev w : World
   w = world nand nor s

@@ -24,14 +24,14 @@ kept-old n new old h = ap (λ t. cond t new old) (ne-eqb n 0 h)
 
 -- ---- calls that write
 
-pub wrong-length : (area nand nor : List ℕ) (o : Outcome) → (length area ≡ 775 → ⊥) → left 20 area nand nor ≡ called area nand nor o
+pub wrong-length : (area nand nor : List ℕ) (o : Outcome) → (length area ≡ 783 → ⊥) → left 20 area nand nor ≡ called area nand nor o
 unfolding called
-wrong-length area nand nor o h = rw (ne-eqb (length area) 775 h)
+wrong-length area nand nor o h = rw (ne-eqb (length area) 783 h)
 
-pub right-length : (area nand nor area' nand' nor' : List ℕ) (n r : ℕ) (s : State) (o : Outcome) → length area ≡ 775 → r ≡ n
+pub right-length : (area nand nor area' nand' nor' : List ℕ) (n r : ℕ) (s : State) (o : Outcome) → length area ≡ 783 → r ≡ n
     → area' ≡ kept n (stateBytes s) area → Calls.answered n nand' nor' s ≡ o → left r area' nand' nor' ≡ called area nand nor o
 unfolding called
-right-length area nand nor area' nand' nor' n r s o h e f g = rw (eq-eqb (length area) 775 h, e, f, ← g)
+right-length area nand nor area' nand' nor' n r s o h e f g = rw (eq-eqb (length area) 783 h, e, f, ← g)
 
 -- ---- calls that answer, of one or two areas with lengths to keep
 
@@ -42,18 +42,18 @@ pub one-right : (m n : ℕ) (a b : Answered) → m ≡ n → a ≡ cond (eqb m n
 one-right m n a b h = sym (ap (λ t. cond t a b) (eq-eqb m n h))
 
 module _ (area answer : List ℕ) (n : ℕ) (rows : List ℕ) (a : Answered) where
-  pub state-wrong : (length area ≡ 775 → ⊥) → answered 20 rows answer ≡ answeredIn area answer n rows a
+  pub state-wrong : (length area ≡ 783 → ⊥) → answered 20 rows answer ≡ answeredIn area answer n rows a
   unfolding answeredIn
-  state-wrong h = sym (ap (λ t. cond (t && eqb (length answer) n) a (answered 20 rows answer)) (ne-eqb (length area) 775 h))
+  state-wrong h = sym (ap (λ t. cond (t && eqb (length answer) n) a (answered 20 rows answer)) (ne-eqb (length area) 783 h))
 
-  both : (t : Bool) → eqb (length answer) n ≡ t → length area ≡ 775 → cond t a (answered 20 rows answer) ≡ answeredIn area answer n rows a
+  both : (t : Bool) → eqb (length answer) n ≡ t → length area ≡ 783 → cond t a (answered 20 rows answer) ≡ answeredIn area answer n rows a
   unfolding answeredIn
-  both t f e = sym (ap₂ (λ u v. cond (u && v) a (answered 20 rows answer)) (eq-eqb (length area) 775 e) f)
+  both t f e = sym (ap₂ (λ u v. cond (u && v) a (answered 20 rows answer)) (eq-eqb (length area) 783 e) f)
 
-  pub answer-wrong : length area ≡ 775 → (length answer ≡ n → ⊥) → answered 20 rows answer ≡ answeredIn area answer n rows a
+  pub answer-wrong : length area ≡ 783 → (length answer ≡ n → ⊥) → answered 20 rows answer ≡ answeredIn area answer n rows a
   answer-wrong e h = both false (ne-eqb (length answer) n h) e
 
-  pub both-right : length area ≡ 775 → length answer ≡ n → a ≡ answeredIn area answer n rows a
+  pub both-right : length area ≡ 783 → length answer ≡ n → a ≡ answeredIn area answer n rows a
   both-right e h = both true (eq-eqb (length answer) n h) e
 
 pub search-left : (o : SearchAnswer) (n c : ℕ) (rows answer answer' : List ℕ)

@@ -8,6 +8,7 @@ use lib.IntN.{ℤ}
 use lib.ListN.{length}
 use Rattle.codec.specs.Number.{bytes}
 use Rattle.plate.specs.Plate.{lookup}
+use Rattle.form.specs.declared.Form.the-variants.{New}
 use Rattle.search.specs.Answers.{SearchAnswer, TallyAnswer}
 use Rattle.store.specs.declared.State.{State}
 use Rattle.store.specs.World.{world}
@@ -33,12 +34,12 @@ kept number new old = cond (eqb number 0) new old
 -- number 20, before everything else: the state's area has another length
 unfoldable pub called : List ℕ → List ℕ → List ℕ → Outcome → Left
 called area nand nor o =
-    cond (eqb (length area) 775)
+    cond (eqb (length area) 783)
     (left (o .number) (kept (o .number) (stateBytes (o .world .state)) area) (o .world .nand) (o .world .nor))
     (left 20 area nand nor)
 
 unfoldable pub formatCalled : List ℕ → List ℕ → List ℕ → ℕ → Left
-formatCalled area nand nor slots = called area nand nor (formatOutcome nand nor slots)
+formatCalled area nand nor slots = called area nand nor (formatOutcome New nand nor slots)
 
 unfoldable pub appendCalled : List ℕ → List ℕ → List ℕ → ℕ → ℕ → ℤ → List ℕ → Left
 appendCalled area nand nor slots time load note =
@@ -61,7 +62,7 @@ answered number rows answer = record { number = number; rows = rows; answer = an
 
 -- number 20, before everything else: the state's area has another length, or the answer's area another than n
 unfoldable pub answeredIn : List ℕ → List ℕ → ℕ → List ℕ → Answered → Answered
-answeredIn area answer n rows a = cond (eqb (length area) 775 && eqb (length answer) n) a (answered 20 rows answer)
+answeredIn area answer n rows a = cond (eqb (length area) 783 && eqb (length answer) n) a (answered 20 rows answer)
 
 -- the count in 8 bytes
 unfoldable pub searchCalled : List ℕ → List ℕ → List ℕ → ℕ → ℕ → ℕ → ℤ → ℤ → List ℕ → List ℕ → Answered

@@ -1,4 +1,4 @@
-// The calls for C and Rust: byte areas and numbers only. The state is a lent area of 775 bytes, the other answers are an area of
+// The calls for C and Rust: byte areas and numbers only. The state is a lent area of 783 bytes, the other answers are an area of
 // 8-byte numbers. Each call returns its number; 20 where one of these areas has another length, before everything else.
 use grow::Plan;
 use store::Answer;
@@ -28,7 +28,7 @@ const COUNTS_BYTES: usize = 168;
 
 // The next state goes into its area if the call was accepted.
 fn keep_state(area: &mut [u8], a: Answer) -> u8
-    requires { ⌜ length (now area) ≡ 775 ⌝ }
+    requires { ⌜ length (now area) ≡ 783 ⌝ }
     ensures number { λ r. ⌜ r ≡ a .number ⌝ }
     ensures state { λ _. ⌜ now (area .exit) ≡ kept (a .number) (stateBytes (a .state)) (now (area .entry)) ⌝ }
 {
@@ -94,9 +94,9 @@ fn put_plain(
     note: [u8; 20],
     p: Plan,
 )
-    requires { ⌜ (length (now state) ≡ 775) × (numberAt (now state) 8 2 ≤ 320) × (4608 ≤ length (now nor)) × (buckets ≤ 36)
+    requires { ⌜ (length (now state) ≡ 783) × (numberAt (now state) 8 2 ≤ 320) × (4608 ≤ length (now nor)) × (buckets ≤ 36)
         × Fitting buckets p ⌝ }
-    requires { ⌜ (time ≤ 999999999999999) × (loadOk load ≡ true) ⌝ }
+    requires { ⌜ loadOk load ≡ true ⌝ }
     ensures nor { λ _. ⌜ now (nor .exit) ≡ allWritten (now (nor .entry)) (writesOf (meaning p) buckets (stored load) count) ⌝ }
     ensures state { λ _. ⌜ now (state .exit) ≡ stateBytes (withLift (stateIn (now (state .entry))) time (stored load) load note
         (bucketsAfter (meaning p) buckets)) ⌝ }

@@ -1,9 +1,9 @@
-// Runs of appends. A lift comes 1,000 ms after the one before, and its note is made from its time.
+// Runs of appends. A lift comes 1,000 ms after the one before, and its note is made from its time and its place in the segment.
 use plain_list::PlainLog;
 use store::Answer;
 use store::State;
 
-const STEP: u64 = 999;
+const STEP: u64 = 1000;
 
 pub fn plus(a: u64, b: u64) -> u64 {
     if a <= 18446744073709551615 - b {
@@ -25,11 +25,26 @@ pub fn formatted(nand: &mut [u8], nor: &mut [u8], slots: u64) -> State {
     a.state
 }
 
-pub fn append(nand: &mut [u8], nor: &mut [u8], slots: u64, s: State, code: u64) -> Answer {
-    let time = plus(s.next, STEP);
-    let note = plain_list::note_of(time);
+fn append_at(
+    nand: &mut [u8],
+    nor: &mut [u8],
+    slots: u64,
+    s: State,
+    time: u64,
+    code: u64,
+) -> Answer {
+    let note = plain_list::note_of(plus(time, s.count as u64));
     let load = load_of(code);
     s.append(nand, nor, slots, time, load, note)
+}
+
+pub fn append(nand: &mut [u8], nor: &mut [u8], slots: u64, s: State, code: u64) -> Answer {
+    append_at(nand, nor, slots, s, plus(s.next, STEP), code)
+}
+
+// A lift at the time of the one before.
+pub fn append_again(nand: &mut [u8], nor: &mut [u8], slots: u64, s: State, code: u64) -> Answer {
+    append_at(nand, nor, slots, s, s.next, code)
 }
 
 // n lifts, their stored loads from `first` on, each `rise` above the one before.

@@ -42,7 +42,7 @@ fn splitting(nand: &mut [u8], nor: &mut [u8], name: &[u8], n: u32) {
     print::case(name, 0, full, nand, nor);
 }
 
-// All slots full; one lift more closes and drops. With S = 2 the header that the drop reads is programmed in the same call.
+// All slots full; one lift more closes and drops. With S = 2 the segment that becomes oldest is closed in the same call.
 pub fn forced_drop(nand: &mut [u8], nor: &mut [u8], slots: u64, lifts: u32) {
     let s = build::formatted(nand, nor, slots);
     let full = build::run(nand, nor, slots, s, lifts, 30001, 31);

@@ -3,13 +3,14 @@
 use crate::build;
 use crate::digest;
 use crate::print;
+use crate::states;
 use store::State;
 
-const SLOTS: u64 = 3;
+pub const SLOTS: u64 = 3;
 
 const OTHER_SLOTS: u64 = 4;
 
-const LATER: u64 = 900000;
+pub const LATER: u64 = 900000;
 
 const PAST_TIME: u64 = 1000000000000000;
 
@@ -20,8 +21,11 @@ const SHORT_NOR: usize = 6143;
 const PAGE_DUE: usize = 33280;
 
 const HEADER_DUE: usize = 48640;
-// The count in the header of serial 2, in slot 1, high byte; the lower end of the root's range in NOR, high byte.
+// In the header of serial 2, in slot 1: the count's high byte, and the byte of the form. Then the lower end of the root's range in
+// NOR, high byte.
 const HEADER_COUNT: usize = 32261;
+
+const HEADER_FORM: usize = 32266;
 
 const ROOT_LOWER: usize = 3;
 
@@ -31,7 +35,12 @@ fn put(s: &mut [u8], at: usize, v: u8) {
     }
 }
 
-fn number(n: u8) {
+// The count of serial 2 is past its limit.
+pub fn damage_header(nand: &mut [u8]) {
+    put(nand, HEADER_COUNT, 255);
+}
+
+pub fn number(n: u8) {
     print::item(b" ", n as u64);
 }
 
@@ -49,7 +58,7 @@ fn at_last_serial(s0: State) -> State {
     s
 }
 
-fn without_lift(s0: State) -> State {
+pub fn without_lift(s0: State) -> State {
     let mut s = s0;
     s.count = 0;
     s.buckets = 0;
@@ -92,8 +101,9 @@ fn append_arguments(nand: &mut [u8], nor: &mut [u8], s: State) {
     append(nand, nor, SLOTS, s, LATER, PAST_LOAD);
 }
 
+// Ground 7 is a time below the last accepted.
 fn append_order(nand: &mut [u8], nor: &mut [u8], s: State) {
-    append(nand, nor, SLOTS, s, 1000, 0);
+    append(nand, nor, SLOTS, s, 70999, 0);
     append(nand, nor, SLOTS, at_last_serial(s), LATER, 0);
 }
 
@@ -156,13 +166,6 @@ fn drop_short(nand: &mut [u8], s: State) {
     drop(nand, &nor, SLOTS, s);
 }
 
-fn drop_damaged(nand: &mut [u8], nor: &[u8], s: State) {
-    let old = digest::get(nand, HEADER_COUNT);
-    put(nand, HEADER_COUNT, 255);
-    drop(nand, nor, SLOTS, s);
-    put(nand, HEADER_COUNT, old);
-}
-
 fn drop_states(nand: &mut [u8], nor: &[u8], s: State) {
     drop(nand, nor, SLOTS, past_bounds(s));
     drop(nand, nor, SLOTS, without_closed(s));
@@ -173,7 +176,6 @@ fn drops(nand: &mut [u8], nor: &[u8], s: State) {
     drop(nand, nor, OTHER_SLOTS, s);
     drop_short(nand, s);
     drop_states(nand, nor, s);
-    drop_damaged(nand, nor, s);
     print::chips(nand, nor);
 }
 
@@ -214,7 +216,7 @@ fn searches(nand: &mut [u8], nor: &[u8], s: State) {
     print::chips(nand, nor);
 }
 
-fn tally(nand: &[u8], nor: &[u8], slots: u64, s: State, t1: u64, t2: u64) {
+pub fn tally(nand: &[u8], nor: &[u8], slots: u64, s: State, t1: u64, t2: u64) {
     let t = s.tally(nand, nor, slots, t1, t2);
     number(t.number);
 }
@@ -224,11 +226,19 @@ fn tally_short(nand: &[u8], s: State) {
     tally(nand, &nor, SLOTS, s, 0, LATER);
 }
 
-fn tally_damaged(nand: &mut [u8], nor: &[u8], s: State) {
-    let old = digest::get(nand, HEADER_COUNT);
-    put(nand, HEADER_COUNT, 255);
+// A tally with one byte of the header changed.
+fn tally_with(nand: &mut [u8], nor: &[u8], s: State, at: usize, v: u8) {
+    let old = digest::get(nand, at);
+    put(nand, at, v);
     tally(nand, nor, SLOTS, s, 0, LATER);
-    put(nand, HEADER_COUNT, old);
+    put(nand, at, old);
+}
+
+// Byte 10 of a header is 1; 0 was the form before, and 2 is none.
+fn tally_damaged(nand: &mut [u8], nor: &[u8], s: State) {
+    tally_with(nand, nor, s, HEADER_COUNT, 255);
+    tally_with(nand, nor, s, HEADER_FORM, 0);
+    tally_with(nand, nor, s, HEADER_FORM, 2);
 }
 
 fn tally_arguments(nand: &[u8], nor: &[u8], s: State) {
@@ -296,11 +306,17 @@ fn changes(nand: &mut [u8], nor: &mut [u8], s: State) {
     drops(nand, nor, s);
 }
 
+fn other_states(nand: &[u8], nor: &[u8], s: State) {
+    states::bounds(nand, nor, s);
+    states::serials_of_heads(nand, nor, s);
+}
+
 pub fn refusals(nand: &mut [u8], nor: &mut [u8]) {
     let s = prepared(nand, nor);
     print::case(b"before the refusals", 0, s, nand, nor);
     changes(nand, nor, s);
     searches(nand, nor, s);
     tallies(nand, nor, s);
+    other_states(nand, nor, s);
     plates();
 }

@@ -1,5 +1,6 @@
-// Cases on the store at its edges (document 01, "320 and 321 lifts, 13 and 14 equal loads"), with S = 2 and 3. Each prints a line:
-// the number, the serials, count, buckets, next and oldest live time after it, and the FNV-1a hash of both chips.
+// Cases on the store at its edges (document 01, "320 and 321 lifts, 13 and 14 equal loads"; W-202), with S = 2 and 3. Each prints a
+// line: the number, the serials, count, buckets and next time after it, and the FNV-1a hash of both chips.
+mod arms;
 mod build;
 mod capacity;
 mod digest;
@@ -7,6 +8,7 @@ mod grounds;
 mod moves;
 mod print;
 mod queries;
+mod states;
 
 const NAND_BYTES: usize = 49152;
 
@@ -28,8 +30,12 @@ fn holding(nand: &mut [u8], nor: &mut [u8]) {
     capacity::forced_drop(nand, nor, 3, 960);
 }
 
-fn calling(nand: &mut [u8], nor: &mut [u8]) {
+fn changing(nand: &mut [u8], nor: &mut [u8]) {
     moves::closes_and_drops(nand, nor);
+    arms::at_one_time(nand, nor);
+}
+
+fn asking(nand: &mut [u8], nor: &mut [u8]) {
     queries::searches(nand, nor);
     queries::split_root(nand, nor);
     grounds::refusals(nand, nor);
@@ -40,5 +46,6 @@ fn main() {
     let mut nor = [0u8; NOR_BYTES];
     holding(&mut nand, &mut nor);
     two_slots(&mut nand, &mut nor, TWO_SLOTS);
-    calling(&mut nand, &mut nor);
+    changing(&mut nand, &mut nor);
+    asking(&mut nand, &mut nor);
 }

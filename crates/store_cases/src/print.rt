@@ -31,7 +31,6 @@ fn fields(s: State) {
     item(b" count=", s.count as u64);
     item(b" buckets=", s.buckets as u64);
     item(b" next=", s.next);
-    item(b" live=", s.live);
 }
 
 // The hashes of both chips, and the end of the line.

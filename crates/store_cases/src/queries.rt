@@ -50,6 +50,18 @@ fn search(nand: &[u8], nor: &[u8], name: &[u8], s: State, q: Window, bytes: usiz
     print::end_line();
 }
 
+// All loads at one time.
+pub fn at_time(nand: &[u8], nor: &[u8], name: &[u8], s: State, time: u64, bytes: usize) {
+    search(
+        nand,
+        nor,
+        name,
+        s,
+        window_of(time, time, -50000, 100000),
+        bytes,
+    );
+}
+
 fn window_of(t1: u64, t2: u64, k1: i32, k2: i32) -> Window {
     Window { t1, t2, k1, k2 }
 }
@@ -65,14 +77,14 @@ fn areas(nand: &[u8], nor: &[u8], s: State) {
     search(nand, nor, b"15 rows, no area", s, q, 0);
 }
 
-// Serial 2 has times 20,999 to 39,999, serial 3 from 40,999.
+// Serial 2 has times 21,000 to 40,000, serial 3 from 41,000.
 fn windows(nand: &[u8], nor: &[u8], s: State) {
     search(
         nand,
         nor,
         b"up to the start of serial 2",
         s,
-        window_of(0, 20999, -1000, 1000),
+        window_of(0, 21000, -1000, 1000),
         1024,
     );
     search(
@@ -80,7 +92,7 @@ fn windows(nand: &[u8], nor: &[u8], s: State) {
         nor,
         b"up to just before it",
         s,
-        window_of(0, 20998, -1000, 1000),
+        window_of(0, 20999, -1000, 1000),
         1024,
     );
     search(
@@ -88,7 +100,7 @@ fn windows(nand: &[u8], nor: &[u8], s: State) {
         nor,
         b"its first lift alone",
         s,
-        window_of(20999, 20999, -1000, -1000),
+        window_of(21000, 21000, -1000, -1000),
         32,
     );
     search(
@@ -96,7 +108,7 @@ fn windows(nand: &[u8], nor: &[u8], s: State) {
         nor,
         b"its first lift, another load",
         s,
-        window_of(20999, 20999, -999, 1000),
+        window_of(21000, 21000, -999, 1000),
         32,
     );
     search(
@@ -104,7 +116,7 @@ fn windows(nand: &[u8], nor: &[u8], s: State) {
         nor,
         b"from its last lift on",
         s,
-        window_of(39999, 999999999999999, -50000, 100000),
+        window_of(40000, 999999999999999, -50000, 100000),
         1024,
     );
     search(
@@ -112,7 +124,7 @@ fn windows(nand: &[u8], nor: &[u8], s: State) {
         nor,
         b"a time with no lift",
         s,
-        window_of(21000, 21998, -50000, 100000),
+        window_of(21001, 21999, -50000, 100000),
         0,
     );
 }
@@ -239,7 +251,7 @@ fn all(nand: &[u8], nor: &[u8], s: State) {
     windows(nand, nor, s);
     loads(nand, nor, s);
     tally(nand, nor, b"tally of all", s, 0, 999999999999999);
-    tally(nand, nor, b"tally of serial 2", s, 20999, 39999);
+    tally(nand, nor, b"tally of serial 2", s, 21000, 40000);
 }
 
 // Loads 250, 251, 9,750 and 9,751: plates 0, 1, 19 and 20.

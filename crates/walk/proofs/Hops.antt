@@ -11,7 +11,8 @@ use lib.ListN.{length, getD}
 use borrow.Author.Tests.{ltb-true, not-true, not-false}
 use Rattle.flash.specs.Chip.{pageOf}
 use Rattle.skiplist.specs.declared.Pointer.{Pointer}
-use Rattle.skiplist.specs.Skip.{none, isNone, isLive, inSlots}
+use Rattle.form.specs.declared.Form.{Form}
+use Rattle.skiplist.specs.Skip.{Live, ageOf, none, isNone, isLive, inSlots}
 use Rattle.segment.specs.declared.Header.{Header}
 use Rattle.segment.specs.Header.{headerIn}
 use Rattle.segment.proofs.HeaderFacts.{HeaderFacts, header-facts, good-slots}
@@ -19,7 +20,7 @@ use Rattle.walk.specs.declared.Cursor.{Cursor}
 use Rattle.walk.specs.declared.Log.{Log}
 use Rattle.walk.specs.declared.Query.{Query}
 use Rattle.walk.specs.declared.SkipWalk.{SkipWalk}
-use Rattle.walk.specs.Seek.{headerAt, hopAt, hop, hops, skipWalk, reachedBy, startOf}
+use Rattle.walk.specs.Seek.{headerAt, hopAt, hop, hops, skipWalk, reachedBy, isLast, startOf}
 use Rattle.walk.specs.Sound.{InSlots, Begun}
 
 -- what stands in a list does not hang on the default
@@ -29,19 +30,19 @@ same-default (a ∷ l) zero d e h = refl
 same-default (a ∷ l) (suc k) d e h = same-default l k d e (omega arith)
 
 -- a header without damage
-pub header-good : (nand : List ℕ) (slots before : ℕ) (p : Pointer) (h : Header) → h ≡ headerAt nand slots p before
+pub header-good : (f : Form) (nand : List ℕ) (slots before : ℕ) (p : Pointer) (h : Header) → h ≡ headerAt f nand slots p before
     → h .good ≡ true
     → HeaderFacts h slots before
 unfolding headerIn
-header-good nand slots before p h is good =
-    rw is (header-facts (pageOf nand (p .slot) 31) slots before (sym (ap (λ (x : Header). x .good) is) ∙ good))
+header-good f nand slots before p h is good =
+    rw is (header-facts f (pageOf nand (p .slot) 31) slots before (sym (ap (λ (x : Header). x .good) is) ∙ good))
 
 -- a live pointer in the slots leads into the chip
-pub live-inside : (size slots live : ℕ) (p : Pointer) → size ≡ slots * 16384 → inSlots p slots ≡ true → isLive p live ≡ true
+pub live-inside : (size slots : ℕ) (live : Live) (p : Pointer) → size ≡ slots * 16384 → inSlots p slots ≡ true → isLive p live ≡ true
     → p .slot * 16384 + 16384 ≤ size
 live-inside size slots live p e i l = go (isNone p) (ltb (p .slot) slots) refl i l
   where
-    go : (n b : Bool) → ltb (p .slot) slots ≡ b → (n || b) ≡ true → (not n && leb live (p .time)) ≡ true
+    go : (n b : Bool) → ltb (p .slot) slots ≡ b → (n || b) ≡ true → (not n && leb (live .oldest) (ageOf (live .form) p)) ≡ true
         → p .slot * 16384 + 16384 ≤ size
     go true b f i l = let z : false ≡ true = l in let y : _≡_ {A = ℕ} 0 1 = cc in absurd (omega arith)
     go false true f i l = omega (arith, ltb-true (p .slot) slots f)
@@ -53,7 +54,7 @@ and-first false b e = e
 
 -- ---- one hop as the code makes it: `p` is the pointer of level k + 1
 
-module _ (nand : List ℕ) (slots live t2 : ℕ) (w : SkipWalk) (k : ℕ) (p : Pointer) (is : p ≡ getD (w .pointers) k none)
+module _ (nand : List ℕ) (slots : ℕ) (live : Live) (t2 : ℕ) (w : SkipWalk) (k : ℕ) (p : Pointer) (is : p ≡ getD (w .pointers) k none)
     (a : Bool) (live-is : a ≡ isLive p live) where
   goes : (b : Bool) → (a && ltb t2 (p .time)) ≡ b
       → (isLive (getD (w .pointers) k none) live && ltb t2 (getD (w .pointers) k none .time)) ≡ b
@@ -71,8 +72,8 @@ module _ (nand : List ℕ) (slots live t2 : ℕ) (w : SkipWalk) (k : ℕ) (p : P
       live-inside (length nand) slots live p size (rw is (ps k)) (sym live-is ∙ and-first a _ (not-false _ e))
 
   module _ (onward : not (a && ltb t2 (p .time)) ≡ false) (page : List ℕ) (page-is : page ≡ pageOf nand (p .slot) 31) (h : Header)
-      (h-is : h ≡ headerIn page slots (w .before)) where
-    read : headerAt nand slots (getD (w .pointers) k none) (w .before) ≡ h
+      (h-is : h ≡ headerIn (live .form) page slots (w .before)) where
+    read : headerAt (live .form) nand slots (getD (w .pointers) k none) (w .before) ≡ h
     read = sym (h-is ∙ rw (page-is, is))
 
     pub hop-on : (level : ℕ) → level ≡ suc k → h .good ≡ true
@@ -110,12 +111,12 @@ pub record Walked (slots top : ℕ) (w : SkipWalk) : Type 0 where
   pub pointed : w .good ≡ true → InSlots slots (w .pointers)
   pub falling : w .good ≡ true → w .before ≤ top
 
-module _ (nand : List ℕ) (slots live t2 : ℕ) where
+module _ (nand : List ℕ) (slots : ℕ) (live : Live) (t2 : ℕ) where
   abbrev next : SkipWalk → ℕ → SkipWalk
   next w k = hopAt nand slots live t2 w k
 
   abbrev header : SkipWalk → ℕ → Header
-  header w k = headerAt nand slots (getD (w .pointers) k none) (w .before)
+  header w k = headerAt (live .form) nand slots (getD (w .pointers) k none) (w .before)
 
   -- a hop by its three cases
   hop-cases : (P : SkipWalk → Type 0) (w : SkipWalk) (k : ℕ)
@@ -145,7 +146,8 @@ module _ (nand : List ℕ) (slots live t2 : ℕ) where
   hop-falls w k =
       hop-cases (λ v. hopsLeft v < w .before + suc k) w k
       (omega (arith, left-most k (w .before)))
-      (λ e. omega (arith, header-good nand slots (w .before) (getD (w .pointers) k none) (header w k) refl e .serial-below))
+      (λ e.
+      omega (arith, header-good (live .form) nand slots (w .before) (getD (w .pointers) k none) (header w k) refl e .serial-below))
       (omega arith)
 
   pub hop-walked : (top : ℕ) (w : SkipWalk) (k : ℕ) → w .level ≡ suc k → Walked slots top w → Walked slots top (next w k)
@@ -155,7 +157,7 @@ module _ (nand : List ℕ) (slots live t2 : ℕ) where
       let m = v .most in
       hop-cases (Walked slots top) w k
       (record { stays = λ h. refl; most = omega arith; pointed = λ h. v .pointed good; falling = λ h. low })
-      (λ g. let f = header-good nand slots (w .before) (getD (w .pointers) k none) (header w k) refl g in
+      (λ g. let f = header-good (live .form) nand slots (w .before) (getD (w .pointers) k none) (header w k) refl g in
       record {
         stays = λ h. refl;
         most = omega arith;
@@ -230,30 +232,31 @@ pub walk-starts : (slots current : ℕ) (heads : List Pointer) → InSlots slots
     → Walked slots current (record { good = true; level = 4; before = current; pointers = heads })
 walk-starts slots current heads h = record { stays = λ a. refl; most = omega arith; pointed = λ a. h; falling = λ a. omega arith }
 
-pub start-begun : (nand : List ℕ) (g : Log) (q : Query) → InSlots (g .slots) (g .heads) → Begun g (startOf nand g q)
+pub start-begun : (nand : List ℕ) (g : Log) (live : Live) (q : Query) → InSlots (g .slots) (g .heads)
+    → Begun g (startOf nand g live q)
 unfolding startOf skipWalk
-start-begun nand g q h = go (not (eqb (g .count) 0) && leb (g .start) (q .t1))
+start-begun nand g live q h = go (not (eqb (g .count) 0) && isLast (live .form) (g .start) (q .t1))
   where
-    v : Walked (g .slots) (g .current) (skipWalk nand g (q .t2))
+    v : Walked (g .slots) (g .current) (skipWalk nand g live (q .t2))
     v =
-        walked-on nand (g .slots) (g .live) (q .t2) (g .current + 4) (g .current) _
+        walked-on nand (g .slots) live (q .t2) (g .current + 4) (g .current) _
         (walk-starts (g .slots) (g .current) (g .heads) h)
 
     go : (b : Bool) → Begun g (cond b (record { good = true; last = true; next = none; before = g .current })
-        (reachedBy (skipWalk nand g (q .t2))))
+        (reachedBy (skipWalk nand g live (q .t2))))
     go true = record { sound = λ e. refl; before-most = λ e. omega arith }
     go false = record { sound = λ e. v .pointed (not-false _ e) 0; before-most = v .falling }
 
 -- as the code makes it
 
-module _ (nand : List ℕ) (g : Log) (q : Query) where
-  pub start-none : (not (eqb (g .count) 0) && leb (g .start) (q .t1)) ≡ true
-      → _≡_ {A = Cursor} (record { good = true; last = true; next = none; before = g .current }) (startOf nand g q)
+module _ (nand : List ℕ) (g : Log) (live : Live) (q : Query) where
+  pub start-none : (not (eqb (g .count) 0) && isLast (live .form) (g .start) (q .t1)) ≡ true
+      → _≡_ {A = Cursor} (record { good = true; last = true; next = none; before = g .current }) (startOf nand g live q)
   unfolding startOf
   start-none e = rw e
 
-  pub start-reached : (not (eqb (g .count) 0) && leb (g .start) (q .t1)) ≡ false → (w : SkipWalk) → w ≡ skipWalk nand g (q .t2)
-      → (first : Pointer) → first ≡ getD (w .pointers) 0 none
-      → _≡_ {A = Cursor} (record { good = w .good; last = not (w .good); next = first; before = w .before }) (startOf nand g q)
+  pub start-reached : (not (eqb (g .count) 0) && isLast (live .form) (g .start) (q .t1)) ≡ false
+      → (w : SkipWalk) → w ≡ skipWalk nand g live (q .t2) → (first : Pointer) → first ≡ getD (w .pointers) 0 none
+      → _≡_ {A = Cursor} (record { good = w .good; last = not (w .good); next = first; before = w .before }) (startOf nand g live q)
   unfolding startOf
   start-reached e w is first f = rw (e, ← is, f)

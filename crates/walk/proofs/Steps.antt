@@ -4,14 +4,14 @@ use mathlib.Core.Path.{_≡_, refl, sym, _∙_}
 use mathlib.Core.Bool.{Bool, true, false, cond, not, _||_}
 use mathlib.Core.List.{List}
 use Prim.Native.Nat.{ℕ, _+_, _*_, _≤_, _<_}
-use lib.Dec.{ltb, leb}
+use lib.Dec.{ltb}
 use lib.ListN.{length, getD}
 use borrow.Author.Tests.{not-false, lt-ltb, le-ltb}
 use Rattle.flash.specs.Chip.{pageOf, pagesOf}
 use Rattle.bloom.specs.Bloom.{mayHold}
 use Rattle.bloom.specs.Pages.{sectionCount, sectionsIn}
 use Rattle.skiplist.specs.declared.Pointer.{Pointer}
-use Rattle.skiplist.specs.Skip.{none, isLive}
+use Rattle.skiplist.specs.Skip.{Live, none, isLive}
 use Rattle.segment.specs.declared.Header.{Header}
 use Rattle.segment.specs.Header.{headerIn}
 use Rattle.segment.proofs.HeaderFacts.{HeaderFacts, good-slots}
@@ -19,7 +19,7 @@ use Rattle.walk.specs.declared.Cursor.{Cursor}
 use Rattle.walk.specs.declared.Query.{Query}
 use Rattle.walk.specs.declared.Step.{Step}
 use Rattle.walk.specs.declared.Step.the-variants.{End, Damage, Pass, Visit}
-use Rattle.walk.specs.Seek.{headerAt}
+use Rattle.walk.specs.Seek.{headerAt, isLast}
 use Rattle.walk.specs.Visit.{isPassed, cursorAfter, closedOf, advanceOf}
 use Rattle.walk.specs.Sound.{Sound, ClosedSound}
 use Rattle.walk.proofs.Hops.{header-good, live-inside}
@@ -52,7 +52,7 @@ or-second : (a b : Bool) → (a || b) ≡ false → b ≡ false
 or-second true b e = let z : true ≡ false = e in cc
 or-second false b e = e
 
-module _ (nand : List ℕ) (slots live : ℕ) (q : Query) (c : Cursor) (a : Bool) (live-is : a ≡ isLive (c .next) live) where
+module _ (nand : List ℕ) (slots : ℕ) (live : Live) (q : Query) (c : Cursor) (a : Bool) (live-is : a ≡ isLive (c .next) live) where
   ends : (b : Bool) → (c .last || not a) ≡ b → (c .last || not (isLive (c .next) live)) ≡ b
   ends b e = rw (← live-is) e
 
@@ -67,8 +67,8 @@ module _ (nand : List ℕ) (slots live : ℕ) (q : Query) (c : Cursor) (a : Bool
         (sym live-is ∙ not-false a (or-second (c .last) (not a) onward))
 
     module _ (page : List ℕ) (page-is : page ≡ pageOf nand (c .next .slot) 31) (h : Header)
-        (h-is : h ≡ headerIn page slots (c .before)) where
-      pub read : h ≡ headerAt nand slots (c .next) (c .before)
+        (h-is : h ≡ headerIn (live .form) page slots (c .before)) where
+      pub read : h ≡ headerAt (live .form) nand slots (c .next) (c .before)
       read = h-is ∙ rw page-is
 
       pub advance-damage : not (h .good) ≡ true → Damage ≡ advanceOf nand slots live q c
@@ -77,12 +77,12 @@ module _ (nand : List ℕ) (slots live : ℕ) (q : Query) (c : Cursor) (a : Bool
 
       module _ (good : not (h .good) ≡ false) where
         pub header-sound : HeaderFacts h slots (c .before)
-        header-sound = header-good nand slots (c .before) (c .next) h read (not-false _ good)
+        header-sound = header-good (live .form) nand slots (c .before) (c .next) h read (not-false _ good)
 
         module _ (passed : Bool) (passed-is : passed ≡ isPassed nand (c .next .slot) h q) (first : Pointer)
             (first-is : first ≡ getD (h .next) 0 none) where
           abbrev after : Cursor
-          after = record { good = true; last = leb (h .start) (q .t1); next = first; before = h .serial }
+          after = record { good = true; last = isLast (live .form) (h .start) (q .t1); next = first; before = h .serial }
 
           pub advance-pass : passed ≡ true → Pass after ≡ advanceOf nand slots live q c
           unfolding advanceOf
@@ -107,14 +107,14 @@ StepFacts nand slots before Damage = Unit {0}
 StepFacts nand slots before (Pass d) = CursorFacts slots before d
 StepFacts nand slots before (Visit s d) = ClosedSound nand s × CursorFacts slots before d
 
-module _ (nand : List ℕ) (slots live : ℕ) (q : Query) (c : Cursor) (size : length nand ≡ slots * 16384)
+module _ (nand : List ℕ) (slots : ℕ) (live : Live) (q : Query) (c : Cursor) (size : length nand ≡ slots * 16384)
     (sound : Sound slots c) where
   abbrev header : Header
-  header = headerAt nand slots (c .next) (c .before)
+  header = headerAt (live .form) nand slots (c .next) (c .before)
 
-  after-facts : header .good ≡ true → CursorFacts slots (c .before) (cursorAfter header q)
+  after-facts : header .good ≡ true → CursorFacts slots (c .before) (cursorAfter (live .form) header q)
   after-facts good =
-      let f = header-good nand slots (c .before) (c .next) header refl good in
+      let f = header-good (live .form) nand slots (c .before) (c .next) header refl good in
       record { sound = λ e. good-slots slots (header .next) 0 (f .pointers); falls = f .serial-below }
 
   pub step-facts : StepFacts nand slots (c .before) (advanceOf nand slots live q c)
@@ -123,13 +123,13 @@ module _ (nand : List ℕ) (slots live : ℕ) (q : Query) (c : Cursor) (size : l
     where
       go : (e : Bool) → (c .last || not (isLive (c .next) live)) ≡ e → (b : Bool) → header .good ≡ b → (p : Bool)
           → StepFacts nand slots (c .before) (cond e End
-          (cond (not (header .good)) Damage (cond p (Pass (cursorAfter header q))
-          (Visit (closedOf (c .next .slot) header) (cursorAfter header q)))))
+          (cond (not (header .good)) Damage (cond p (Pass (cursorAfter (live .form) header q))
+          (Visit (closedOf (c .next .slot) header) (cursorAfter (live .form) header q)))))
       go true e b h p = tt
       go false e false h p = rw h tt
       go false e true h true = rw h (after-facts h)
       go false e true h false =
-          let f = header-good nand slots (c .before) (c .next) header refl h .counts in
+          let f = header-good (live .form) nand slots (c .before) (c .next) header refl h .counts in
           let i = live-inside (length nand) slots live (c .next) size (sound (or-first (c .last) _ e))
           (not-false _ (or-second (c .last) _ e)) in
           rw h (record { inside = i; most = f .most; buckets-most = f .buckets-most }, after-facts h)

@@ -1,14 +1,16 @@
 -- Where a search's closed segments begin (document 01, "Search", first paragraph): the skip walk, from the heads, level 4 down
 -- to 1.
 -- Assumes nothing.
-use mathlib.Core.Bool.{true, cond, not, _&&_}
+use mathlib.Core.Bool.{Bool, true, cond, not, _&&_}
 use mathlib.Core.List.{List}
 use Prim.Native.Nat.{ℕ, zero, suc, _+_}
 use lib.Dec.{eqb, leb, ltb}
 use lib.ListN.{getD}
 use Rattle.flash.specs.Chip.{pageOf}
 use Rattle.skiplist.specs.declared.Pointer.{Pointer}
-use Rattle.skiplist.specs.Skip.{none, isLive}
+use Rattle.form.specs.declared.Form.{Form}
+use Rattle.form.specs.declared.Form.the-variants.{Old, New}
+use Rattle.skiplist.specs.Skip.{Live, none, isLive}
 use Rattle.segment.specs.declared.Header.{Header}
 use Rattle.segment.specs.Header.{headerIn}
 use Rattle.walk.specs.declared.Cursor.{Cursor}
@@ -17,42 +19,48 @@ use Rattle.walk.specs.declared.Query.{Query}
 use Rattle.walk.specs.declared.SkipWalk.{SkipWalk}
 
 -- the header that a pointer leads to; its serial is to be below the one before
-abbrev pub headerAt : List ℕ → ℕ → Pointer → ℕ → Header
-headerAt nand slots p before = headerIn (pageOf nand (p .slot) 31) slots before
+abbrev pub headerAt : Form → List ℕ → ℕ → Pointer → ℕ → Header
+headerAt f nand slots p before = headerIn f (pageOf nand (p .slot) 31) slots before
 
 -- the walk is at level k + 1: "while that level's pointer is live and its time is above t2, load its header and go on from its
 -- pointers",
 -- else one level down; damage ends the walk
-unfoldable pub hopAt : List ℕ → ℕ → ℕ → ℕ → SkipWalk → ℕ → SkipWalk
+unfoldable pub hopAt : List ℕ → ℕ → Live → ℕ → SkipWalk → ℕ → SkipWalk
 hopAt nand slots live t2 w k =
     let p = getD (w .pointers) k none in
-    let h = headerAt nand slots p (w .before) in
+    let h = headerAt (live .form) nand slots p (w .before) in
     cond (isLive p live && ltb t2 (p .time))
     (record { good = h .good; level = cond (h .good) (suc k) 0; before = h .serial; pointers = h .next })
     (record { good = true; level = k; before = w .before; pointers = w .pointers })
 
-abbrev pub hop : List ℕ → ℕ → ℕ → ℕ → SkipWalk → ℕ → SkipWalk
+abbrev pub hop : List ℕ → ℕ → Live → ℕ → SkipWalk → ℕ → SkipWalk
 hop nand slots live t2 w zero = w
 hop nand slots live t2 w (suc k) = hopAt nand slots live t2 w k
 
 -- n hops, as long as the walk is at a level; serial and level together fall at each
-unfoldable pub hops : ℕ → List ℕ → ℕ → ℕ → ℕ → SkipWalk → SkipWalk
+unfoldable pub hops : ℕ → List ℕ → ℕ → Live → ℕ → SkipWalk → SkipWalk
 hops zero nand slots live t2 w = w
 hops (suc n) nand slots live t2 w = hops n nand slots live t2 (hop nand slots live t2 w (w .level))
 
 -- the walk from the heads
-unfoldable pub skipWalk : List ℕ → Log → ℕ → SkipWalk
-skipWalk nand g t2 =
-    hops (g .current + 4) nand (g .slots) (g .live) t2
+unfoldable pub skipWalk : List ℕ → Log → Live → ℕ → SkipWalk
+skipWalk nand g live t2 =
+    hops (g .current + 4) nand (g .slots) live t2
     (record { good = true; level = 4; before = g .current; pointers = g .heads })
 
 -- "the level 1 pointer then reached"
 abbrev pub reachedBy : SkipWalk → Cursor
 reachedBy w = record { good = w .good; last = not (w .good); next = getD (w .pointers) 0 none; before = w .before }
 
--- "unless that segment has lifts and its start ≤ t1": then there is nothing to do in the closed ones
-unfoldable pub startOf : List ℕ → Log → Query → Cursor
-startOf nand g q =
-    cond (not (eqb (g .count) 0) && leb (g .start) (q .t1))
+-- whether a segment that starts here is the last to be done: "until a start ≤ t1 has been done" in form 0; in form 1 "a search
+-- goes on while a segment's start is at least t1"
+abbrev pub isLast : Form → ℕ → ℕ → Bool
+isLast Old start t1 = leb start t1
+isLast New start t1 = ltb start t1
+
+-- the open segment, if it has lifts, may be the last: then there is nothing to do in the closed ones
+unfoldable pub startOf : List ℕ → Log → Live → Query → Cursor
+startOf nand g live q =
+    cond (not (eqb (g .count) 0) && isLast (live .form) (g .start) (q .t1))
     (record { good = true; last = true; next = none; before = g .current })
-    (reachedBy (skipWalk nand g (q .t2)))
+    (reachedBy (skipWalk nand g live (q .t2)))

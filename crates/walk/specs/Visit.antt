@@ -10,7 +10,9 @@ use Rattle.lift.specs.Rows.{timeIn, codeIn, recordIn}
 use Rattle.bloom.specs.Bloom.{mayHold}
 use Rattle.bloom.specs.Pages.{sectionCount, sectionsIn}
 use Rattle.bitset.specs.Set.{picked, elem}
+use Rattle.form.specs.declared.Form.{Form}
 use Rattle.skiplist.specs.Skip as Skip
+use Rattle.skiplist.specs.Skip.{Live}
 use Rattle.segment.specs.declared.Header.{Header}
 use Rattle.tree.specs.Sweep.{sweepOn}
 use Rattle.walk.specs.declared.Closed.{Closed}
@@ -19,7 +21,7 @@ use Rattle.walk.specs.declared.Log.{Log}
 use Rattle.walk.specs.declared.Query.{Query}
 use Rattle.walk.specs.declared.Step.{Step}
 use Rattle.walk.specs.declared.Step.the-variants.{End, Damage, Pass, Visit}
-use Rattle.walk.specs.Seek.{headerAt}
+use Rattle.walk.specs.Seek.{headerAt, isLast}
 
 -- ---- from segment to segment
 
@@ -30,21 +32,22 @@ isPassed nand slot h q =
     (ltb (h .high) (q .k1) || ltb (q .k2) (h .low))
     || (not (ltb (q .k1) (q .k2)) && not (mayHold (sectionsIn (pagesOf nand slot 29 2) (sectionCount (h .count))) (q .k1)))
 
--- "Then level 1, until a start ≤ t1 has been done."
-abbrev pub cursorAfter : Header → Query → Cursor
-cursorAfter h q = record { good = true; last = leb (h .start) (q .t1); next = getD (h .next) 0 Skip.none; before = h .serial }
+-- "Then level 1", until the last one has been done
+abbrev pub cursorAfter : Form → Header → Query → Cursor
+cursorAfter f h q = record { good = true; last = isLast f (h .start) (q .t1); next = getD (h .next) 0 Skip.none; before = h .serial }
 
 abbrev pub closedOf : ℕ → Header → Closed
 closedOf slot h = record { slot = slot; count = h .count; buckets = h .buckets }
 
 -- one segment on: the end, damage in its header, a segment passed over, or one whose tree is searched
-unfoldable pub advanceOf : List ℕ → ℕ → ℕ → Query → Cursor → Step
+unfoldable pub advanceOf : List ℕ → ℕ → Live → Query → Cursor → Step
 advanceOf nand slots live q c =
     let p = c .next in
-    let h = headerAt nand slots p (c .before) in
+    let h = headerAt (live .form) nand slots p (c .before) in
     cond (c .last || not (Skip.isLive p live)) End
     (cond (not (h .good)) Damage
-    (cond (isPassed nand (p .slot) h q) (Pass (cursorAfter h q)) (Visit (closedOf (p .slot) h) (cursorAfter h q))))
+    (cond (isPassed nand (p .slot) h q) (Pass (cursorAfter (live .form) h q))
+    (Visit (closedOf (p .slot) h) (cursorAfter (live .form) h q))))
 
 -- ---- one segment
 

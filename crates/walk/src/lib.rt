@@ -1,6 +1,7 @@
 // A search from segment to segment (document 01, "Search"): the skip walk, level 1, and what is taken from each segment.
 use bitset::Bits;
 use flash::Page;
+use form::Form;
 use segment::Header;
 use skiplist::Pointer;
 use sweep::Range;
@@ -13,7 +14,7 @@ ghost use lib.ListN.{length, getD};
 ghost use Rattle.bitset.specs.Set.{emptyWords, insertAll, members, picked, has};
 ghost use Rattle.bitset.proofs.Set.{Below};
 ghost use Rattle.lift.specs.Rows.{timeIn};
-ghost use Rattle.skiplist.specs.Skip.{none};
+ghost use Rattle.skiplist.specs.Skip.{none, serialsFrom};
 ghost use Rattle.sweep.specs.Swept.{sweptFrom, Recorded, Held};
 ghost use Rattle.walk.specs.Seek.{hopAt, skipWalk, startOf};
 ghost use Rattle.walk.specs.Visit.{isPassed, advanceOf, timely, matchesOf, closedMatches, openMatches};
@@ -35,7 +36,7 @@ pub struct Log {
     pub count: u16,
     pub buckets: u8,
     pub start: u64,
-    pub live: u64,
+    pub oldest: u32,
     pub heads: [Pointer; 4],
 }
 
@@ -78,15 +79,15 @@ fn pointer_of(pointers: [Pointer; 4], k: usize) -> Pointer
 }
 
 // One header on, or one level down.
-fn hop(nand: &[u8], slots: u64, live: u64, t2: u64, w: SkipWalk) -> SkipWalk
+fn hop(nand: &[u8], slots: u64, oldest: u32, t2: u64, w: SkipWalk) -> SkipWalk
     requires { ⌜ (length (now nand) ≡ slots * 16384) × (0 < w .level) × (w .level ≤ 4) ⌝ }
     requires { ⌜ InSlots slots (w .pointers) ⌝ }
-    ensures { λ r. ⌜ r ≡ hopAt (now (nand .entry)) slots live t2 w (w .level - 1) ⌝ }
+    ensures { λ r. ⌜ r ≡ hopAt (now (nand .entry)) slots (serialsFrom oldest) t2 w (w .level - 1) ⌝ }
 {
     let pointers = w.pointers;
     let level = w.level - 1;
     let p = pointer_of(pointers, level);
-    let onward = p.is_live(live) & (t2 < p.time);
+    let onward = p.is_live(oldest) & (t2 < p.time);
     if !onward {
         return SkipWalk {
             good: true,
@@ -97,7 +98,7 @@ fn hop(nand: &[u8], slots: u64, live: u64, t2: u64, w: SkipWalk) -> SkipWalk
     }
     let slot = p.slot as usize;
     let page = flash::pages_of(nand, slot, Page(segment::HEADER_PAGE), 1);
-    let h = segment::header_in(page, slots, w.before);
+    let h = segment::header_in(page, Form::New, slots, w.before);
     let next = h.next;
     let good = h.good;
     if good {
@@ -120,7 +121,7 @@ fn hop(nand: &[u8], slots: u64, live: u64, t2: u64, w: SkipWalk) -> SkipWalk
 fn seek(nand: &[u8], g: Log, t2: u64) -> SkipWalk
     requires { ⌜ length (now nand) ≡ g .slots * 16384 ⌝ }
     requires { ⌜ InSlots (g .slots) (g .heads) ⌝ }
-    ensures { λ r. ⌜ r ≡ skipWalk (now (nand .entry)) g t2 ⌝ }
+    ensures { λ r. ⌜ r ≡ skipWalk (now (nand .entry)) g (serialsFrom (g .oldest)) t2 ⌝ }
 {
     let heads = g.heads;
     let mut w = SkipWalk {
@@ -130,7 +131,7 @@ fn seek(nand: &[u8], g: Log, t2: u64) -> SkipWalk
         pointers: heads,
     };
     while 0 < w.level {
-        w = hop(nand, g.slots, g.live, t2, w);
+        w = hop(nand, g.slots, g.oldest, t2, w);
     }
     w
 }
@@ -139,9 +140,9 @@ fn seek(nand: &[u8], g: Log, t2: u64) -> SkipWalk
 pub fn start_of(nand: &[u8], g: Log, q: Query) -> Cursor
     requires { ⌜ length (now nand) ≡ g .slots * 16384 ⌝ }
     requires { ⌜ InSlots (g .slots) (g .heads) ⌝ }
-    ensures { λ r. ⌜ r ≡ startOf (now (nand .entry)) g q ⌝ }
+    ensures { λ r. ⌜ r ≡ startOf (now (nand .entry)) g (serialsFrom (g .oldest)) q ⌝ }
 {
-    let done = !(g.count == 0) & (g.start <= q.t1);
+    let done = !(g.count == 0) & (g.start < q.t1);
     if done {
         let none = Pointer::NONE;
         return Cursor {
@@ -181,19 +182,19 @@ fn is_passed(nand: &[u8], slot: usize, h: Header, q: Query) -> bool
 }
 
 // One segment on.
-pub fn advance(nand: &[u8], slots: u64, live: u64, q: Query, c: Cursor) -> Step
+pub fn advance(nand: &[u8], slots: u64, oldest: u32, q: Query, c: Cursor) -> Step
     requires { ⌜ (length (now nand) ≡ slots * 16384) × (1 ≤ q .k1) ⌝ }
     requires { ⌜ Sound slots c ⌝ }
-    ensures { λ r. ⌜ r ≡ advanceOf (now (nand .entry)) slots live q c ⌝ }
+    ensures { λ r. ⌜ r ≡ advanceOf (now (nand .entry)) slots (serialsFrom oldest) q c ⌝ }
 {
     let p = c.next;
-    let ends = c.last | !p.is_live(live);
+    let ends = c.last | !p.is_live(oldest);
     if ends {
         return Step::End;
     }
     let slot = p.slot as usize;
     let page = flash::pages_of(nand, slot, Page(segment::HEADER_PAGE), 1);
-    let h = segment::header_in(page, slots, c.before);
+    let h = segment::header_in(page, Form::New, slots, c.before);
     let good = h.good;
     if !good {
         return Step::Damage;
@@ -202,7 +203,7 @@ pub fn advance(nand: &[u8], slots: u64, live: u64, q: Query, c: Cursor) -> Step
     let first = pointer_of(next, 0);
     let d = Cursor {
         good: true,
-        last: h.start <= q.t1,
+        last: h.start < q.t1,
         next: first,
         before: h.serial,
     };

@@ -68,10 +68,10 @@ impl Input {
         }
     }
 
-    /// A lift that suits. After a lift at the last time none does.
+    /// A lift that suits; at the end of time only its repetition does.
     fn append(&mut self) -> Vec<u8> {
         let random = &mut self.random;
-        let time = self.times.after(self.log.next_time(), random).min(LAST_TIME);
+        let time = self.times.after(self.log.next_time(), random);
         let load = self.loads.next(random);
         spelling::append(random, time, load).into()
     }
@@ -96,8 +96,8 @@ impl Input {
     /// What grounds 5, 6, 7 and 9 are against, two of them at times.
     fn ask_in_vain(&mut self) -> Vec<u8> {
         let random = &mut self.random;
-        let next_time = self.log.next_time().min(LAST_TIME);
-        let early = random.pick(&[next_time.saturating_sub(1), next_time / 2, 0]);
+        let last_time = self.log.next_time();
+        let early = random.pick(&[last_time.saturating_sub(1), last_time / 2, 0]);
         let load = self.loads.next(random);
         let beyond = random.pick(&[LEAST_LOAD - 1, GREATEST_LOAD + 1, -9_999_999, 99_999_999]);
         let window = Held::by(&self.log).window(random);
@@ -106,7 +106,7 @@ impl Input {
         match random.below(9) {
             0 => spelling::append(random, early, load).into(),
             1 => spelling::append(random, early, beyond).into(),
-            2 => spelling::append(random, next_time, beyond).into(),
+            2 => spelling::append(random, last_time, beyond).into(),
             3 => b"C\nC".to_vec(),
             4 => b"G\nG".to_vec(),
             5 => tally_and_page(random, &backwards),

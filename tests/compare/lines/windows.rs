@@ -12,11 +12,11 @@ pub struct Held {
 }
 
 impl Held {
-    /// Where nothing is held, the next lift stands for it.
+    /// Where nothing is held, a lift at the last accepted time stands for it.
     pub fn by(log: &PaperLog) -> Held {
         let (mut times, mut loads): (Vec<u64>, Vec<i32>) = log.lifts().map(|lift| (lift.time, lift.load)).unzip();
         if times.is_empty() {
-            times.push(log.next_time().min(LAST_TIME));
+            times.push(log.next_time());
             loads.push(0);
         }
         Held { times, loads }
@@ -52,7 +52,8 @@ impl Held {
         (t1.min(LAST_TIME), t2)
     }
 
-    /// Lifts in succession, as many as there are result rows or one more, if so many are held.
+    /// Lifts in succession, as many as there are result rows or one more, if so many are held; those at the same times
+    /// come with them.
     fn rows_or_one_more(&self, random: &mut Random) -> (u64, u64) {
         let lifts = random.pick(&[RESULT_ROWS, RESULT_ROWS + 1]).min(self.times.len());
         let place = random.index(self.times.len() - lifts + 1);

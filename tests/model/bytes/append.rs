@@ -1,7 +1,6 @@
 //! Append and drop after grounds 1 to 9: closing by force, the slot that must go, the lift itself.
 use super::bloom::set_bits;
 use super::close::close_segment;
-use super::header::Header;
 use super::insert::{find_place, write_place, Place};
 use super::work::*;
 use crate::limits::{Outcome, LOAD_SHIFT, ROW_BYTES, SEGMENT_BUCKETS, SEGMENT_LIFTS};
@@ -16,7 +15,7 @@ pub fn append_lift(work: &mut Work, time: u64, load: i32, note: &[u8; 20]) -> Ou
         }
     };
     if work.state.count == 0 {
-        enter_serial(work, time)?;
+        enter_serial(work);
     }
     write_place(work, &place, load)?;
     fill_buffers(work, time, load, note)?;
@@ -35,22 +34,12 @@ fn place_in_open_segment(work: &Work, load: i32) -> Outcome<Option<Place>> {
 }
 
 /// The first append to a serial: the segment S before it goes, if it is still retained.
-fn enter_serial(work: &mut Work, time: u64) -> Outcome<()> {
+fn enter_serial(work: &mut Work) {
     let open = work.state.open;
     if u64::from(work.state.oldest) + work.slots <= u64::from(open) {
         work.erase_slot(slot_of(open, work.slots));
         work.state.oldest = open - work.slots as u32 + 1;
-        work.state.oldest_live = start_of_closed(work, work.state.oldest)?;
-    } else if work.state.oldest == open {
-        work.state.oldest_live = time;
     }
-    Ok(())
-}
-
-/// The start in the header of a closed segment, which must have a serial below the open one.
-fn start_of_closed(work: &Work, serial: u32) -> Outcome<u64> {
-    let page = work.page(slot_of(serial, work.slots), HEADER_PAGE);
-    Ok(Header::read(page, work.slots, work.state.open)?.start)
 }
 
 /// A lift page goes to NAND at its sixteenth lift, a Bloom section to NOR at its sixty-fourth.
@@ -85,19 +74,11 @@ fn note_in_state(work: &mut Work, time: u64, load: i32) {
     state.high = state.high.max(load);
     state.push_last_load(load);
     state.count += 1;
-    state.next = time + 1;
+    state.next = time;
 }
 
-/// Erases the oldest closed segment; the next one tells the oldest live time.
-pub fn drop_segment(work: &mut Work) -> Outcome<()> {
+/// "a drop reads no header" (W-202)
+pub fn drop_oldest_closed(work: &mut Work) {
     work.erase_slot(slot_of(work.state.oldest, work.slots));
     work.state.oldest += 1;
-    work.state.oldest_live = if work.state.oldest < work.state.open {
-        start_of_closed(work, work.state.oldest)?
-    } else if work.state.count > 0 {
-        work.state.start
-    } else {
-        work.state.next
-    };
-    Ok(())
 }

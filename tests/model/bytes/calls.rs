@@ -1,5 +1,5 @@
 //! The calls with their grounds in checking order.
-use super::append::{append_lift, drop_segment};
+use super::append::{append_lift, drop_oldest_closed};
 use super::close::close_segment;
 use super::search::{find, load_of, Record};
 use super::state::State;
@@ -56,7 +56,7 @@ fn append(areas: &mut Areas, slots: u64, time: u64, load: i32, note: &[u8; 20]) 
     let state = checked_state(areas, slots)?;
     refuse_if(time_past_limit(time), TIME_LIMIT)?;
     refuse_if(load_past_limit(load), LOAD_LIMIT)?;
-    refuse_if(time < state.next, TIME_BELOW_NEXT)?;
+    refuse_if(time < state.next, TIME_BELOW_LAST)?;
     refuse_if(state.open >= LAST_SERIAL - 1, LAST_SERIALS)?;
     let mut work = Work::new(areas, slots, state);
     let result = append_lift(&mut work, time, load, note);
@@ -75,8 +75,8 @@ fn drop_oldest(areas: &mut Areas, slots: u64) -> Outcome<()> {
     let state = checked_state(areas, slots)?;
     refuse_if(state.oldest == state.open, NOTHING_TO_DO)?;
     let mut work = Work::new(areas, slots, state);
-    let result = drop_segment(&mut work);
-    work.end(result)
+    drop_oldest_closed(&mut work);
+    work.end(Ok(()))
 }
 
 fn put_values(outputs: &mut Outputs, values: &[u64]) {

@@ -1,6 +1,6 @@
 //! Closing the open segment: its pages, the heads, and on to the next serial.
 use super::bloom::{bloom_page, fragment_length, sections_of};
-use super::header::{level_of, Header};
+use super::header::{level_of, Header, FORM};
 use super::state::Pointer;
 use super::work::*;
 use script::areas::PAGE_BYTES;
@@ -17,7 +17,7 @@ pub fn close_segment(work: &mut Work) {
     program_bloom(work, slot);
     let header = header_to_program(work);
     work.program(slot, HEADER_PAGE, &header.page());
-    let this = Pointer { slot: slot as u16, time: work.state.start };
+    let this = Pointer { slot: slot as u16, serial: work.state.open, time: work.state.start };
     work.state.heads[..level_of(work.state.open)].fill(this);
     work.erase_nor();
     work.state.open += 1;
@@ -63,8 +63,9 @@ fn header_to_program(work: &Work) -> Header {
         sections,
         fragment_length: fragment_length(sections),
         level: level as u8,
+        form: FORM,
         start: state.start,
-        end: state.next - 1,
+        end: state.next,
         low: state.low.into(),
         high: state.high.into(),
         pointers,

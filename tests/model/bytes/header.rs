@@ -3,7 +3,10 @@ use super::bloom::{fragment_length, sections_of};
 use super::numbers::{u16_at, u32_at, u64_at, Bytes};
 use super::state::Pointer;
 use crate::limits::*;
-use script::areas::PAGE_BYTES;
+use script::areas::{PAGE_BYTES, POINTER_BYTES};
+
+/// "Header byte 10 is 1 in this form" (W-202)
+pub const FORM: u8 = 1;
 
 pub struct Header {
     pub serial: u32,
@@ -12,6 +15,7 @@ pub struct Header {
     pub sections: usize,
     pub fragment_length: usize,
     pub level: u8,
+    pub form: u8,
     pub start: u64,
     pub end: u64,
     /// Low and high are loads as logged; the page holds stored ones.
@@ -29,7 +33,7 @@ impl Header {
     pub fn page(&self) -> Vec<u8> {
         let mut page = Bytes::default();
         page.put(&self.serial.to_le_bytes()).put(&(self.count as u16).to_le_bytes());
-        page.put(&[self.buckets as u8, self.sections as u8, self.fragment_length as u8, self.level]);
+        page.put(&[self.buckets as u8, self.sections as u8, self.fragment_length as u8, self.level, self.form]);
         page.filled_to(16, 0);
         page.put(&self.start.to_le_bytes()).put(&self.end.to_le_bytes());
         page.put(&((self.low + LOAD_SHIFT) as u32).to_le_bytes());
@@ -48,11 +52,12 @@ impl Header {
             sections: page[7].into(),
             fragment_length: page[8].into(),
             level: page[9],
+            form: page[10],
             start: u64_at(page, 16),
             end: u64_at(page, 24),
             low: i64::from(u32_at(page, 32)) - LOAD_SHIFT,
             high: i64::from(u32_at(page, 36)) - LOAD_SHIFT,
-            pointers: std::array::from_fn(|level| Pointer::at(page, 40 + 10 * level)),
+            pointers: std::array::from_fn(|level| Pointer::at(page, 40 + POINTER_BYTES * level)),
         };
         refuse_if(header.is_damaged(slots) || header.serial >= serial_before, DAMAGE)?;
         Ok(header)
@@ -65,6 +70,7 @@ impl Header {
             || !(1..=SEGMENT_BUCKETS).contains(&self.buckets)
             || self.sections != sections_of(self.count)
             || self.fragment_length != fragment_length(self.sections)
+            || self.form != FORM
             || time_past_limit(self.start)
             || time_past_limit(self.end)
             || load_past_limit(self.low)

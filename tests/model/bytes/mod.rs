@@ -1,4 +1,4 @@
-//! The expectation of every byte: document 01 over whatever chips and state are handed over.
+//! The expectation of every byte: document 01, in form 1 of W-202, over whatever chips and state are handed over.
 mod append;
 mod bloom;
 mod bucket;

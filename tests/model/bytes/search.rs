@@ -1,4 +1,4 @@
-//! Document 01, "Search": the open segment, the skip walk, level 1, and the matches of each.
+//! Document 01, "Search", as W-202 amends it: the open segment, the skip walk, level 1, and the matches of each.
 use super::bloom;
 use super::bucket::{Bucket, NO_CHILD};
 use super::header::Header;
@@ -31,12 +31,13 @@ pub fn find(areas: &Areas, state: &State, slots: u64, window: &Window) -> Outcom
     if has_open_lifts {
         newest_first.push(reader.open_matches(window)?);
     }
-    if !(has_open_lifts && state.start <= window.t1) {
+    // "A search goes on while a segment's start, the open one's included, is at least t1."
+    if !(has_open_lifts && state.start < window.t1) {
         let mut pointer = reader.walk_to(window.t2)?;
-        while pointer.is_live(state.oldest_live) {
+        while pointer.is_live(state.oldest) {
             let header = reader.load_header(pointer)?;
             newest_first.push(reader.closed_matches(&header, pointer.slot.into(), window)?);
-            if header.start <= window.t1 {
+            if header.start < window.t1 {
                 break;
             }
             pointer = header.pointers[0];
@@ -57,7 +58,7 @@ impl Reader<'_> {
     fn walk_to(&mut self, t2: u64) -> Outcome<Pointer> {
         let mut pointers = self.state.heads;
         for level in (0..4).rev() {
-            while pointers[level].is_live(self.state.oldest_live) && pointers[level].time > t2 {
+            while pointers[level].is_live(self.state.oldest) && pointers[level].time > t2 {
                 pointers = self.load_header(pointers[level])?.pointers;
             }
         }

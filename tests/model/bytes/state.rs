@@ -1,29 +1,32 @@
-//! Document 01, "State": the fields, their bytes and their bounds.
+//! Document 01, "State", as W-202 amends it: the fields, their bytes and their bounds.
 use super::numbers::{i32_at, u16_at, u32_at, u64_at, Bytes};
 use crate::limits::*;
+use script::areas::{BLOOM_BUFFER, HEADS, LAST_LOADS, PAGE_BUFFER, POINTER_BYTES, START};
 
 pub const NO_SLOT: u16 = 65_535;
 
+/// "slot 2, serial 4, time 8" (W-202)
 #[derive(Clone, Copy)]
 pub struct Pointer {
     pub slot: u16,
+    pub serial: u32,
     pub time: u64,
 }
 
 impl Pointer {
-    pub const NONE: Pointer = Pointer { slot: NO_SLOT, time: 0 };
+    pub const NONE: Pointer = Pointer { slot: NO_SLOT, serial: 0, time: 0 };
 
     pub fn at(bytes: &[u8], offset: usize) -> Pointer {
-        Pointer { slot: u16_at(bytes, offset), time: u64_at(bytes, offset + 2) }
+        Pointer { slot: u16_at(bytes, offset), serial: u32_at(bytes, offset + 2), time: u64_at(bytes, offset + 6) }
     }
 
     pub fn put_into(&self, bytes: &mut Bytes) {
-        bytes.put(&self.slot.to_le_bytes()).put(&self.time.to_le_bytes());
+        bytes.put(&self.slot.to_le_bytes()).put(&self.serial.to_le_bytes()).put(&self.time.to_le_bytes());
     }
 
-    /// Not none, and no earlier than the oldest live time.
-    pub fn is_live(&self, oldest_live: u64) -> bool {
-        self.slot != NO_SLOT && self.time >= oldest_live
+    /// "live when its slot isn't 65,535 and its serial is at least the oldest retained"
+    pub fn is_live(&self, oldest: u32) -> bool {
+        self.slot != NO_SLOT && self.serial >= oldest
     }
 
     pub fn slot_is_bad(&self, slots: u64) -> bool {
@@ -38,7 +41,6 @@ pub struct State {
     pub count: u16,
     pub buckets: u8,
     pub next: u64,
-    pub oldest_live: u64,
     pub heads: [Pointer; 4],
     pub last_loads: [i32; 13],
     pub page: [u8; 512],
@@ -56,7 +58,6 @@ impl State {
             count: 0,
             buckets: 0,
             next: 0,
-            oldest_live: 0,
             heads: [Pointer::NONE; 4],
             last_loads: [0; 13],
             page: [255; 512],
@@ -74,22 +75,20 @@ impl State {
             count: u16_at(bytes, 8),
             buckets: bytes[10],
             next: u64_at(bytes, 11),
-            oldest_live: u64_at(bytes, 19),
-            heads: std::array::from_fn(|level| Pointer::at(bytes, 27 + 10 * level)),
-            last_loads: std::array::from_fn(|place| i32_at(bytes, 67 + 4 * place)),
-            page: bytes[119..631].try_into().unwrap(),
-            bloom: bytes[631..759].try_into().unwrap(),
-            start: u64_at(bytes, 759),
-            low: i32_at(bytes, 767),
-            high: i32_at(bytes, 771),
+            heads: std::array::from_fn(|level| Pointer::at(bytes, HEADS + POINTER_BYTES * level)),
+            last_loads: std::array::from_fn(|place| i32_at(bytes, LAST_LOADS + 4 * place)),
+            page: bytes[PAGE_BUFFER..BLOOM_BUFFER].try_into().unwrap(),
+            bloom: bytes[BLOOM_BUFFER..START].try_into().unwrap(),
+            start: u64_at(bytes, START),
+            low: i32_at(bytes, START + 8),
+            high: i32_at(bytes, START + 12),
         }
     }
 
     pub fn to_bytes(&self) -> Vec<u8> {
         let mut bytes = Bytes::default();
         bytes.put(&self.oldest.to_le_bytes()).put(&self.open.to_le_bytes());
-        bytes.put(&self.count.to_le_bytes()).put(&[self.buckets]);
-        bytes.put(&self.next.to_le_bytes()).put(&self.oldest_live.to_le_bytes());
+        bytes.put(&self.count.to_le_bytes()).put(&[self.buckets]).put(&self.next.to_le_bytes());
         self.heads.iter().for_each(|head| head.put_into(&mut bytes));
         self.last_loads.iter().for_each(|load| {
             bytes.put(&load.to_le_bytes());
@@ -122,13 +121,11 @@ impl State {
     }
 
     fn times_break_a_bound(&self) -> bool {
-        let past = |time: u64| time > LAST_TIME + 1;
         let fresh = self.open == 1 && self.count == 0;
-        past(self.next)
-            || past(self.oldest_live)
-            || past(self.start)
-            || (self.next == 0) != fresh
-            || (self.count > 0 && self.start >= self.next)
+        self.next > LAST_TIME
+            || self.start > LAST_TIME + 1
+            || (fresh && self.next != 0)
+            || (self.count > 0 && self.start > self.next)
     }
 
     fn loads_break_a_bound(&self) -> bool {
@@ -158,5 +155,18 @@ impl State {
             self.last_loads.rotate_left(1);
             self.last_loads[12] = load;
         }
+    }
+}
+
+#[cfg(test)]
+mod tests {
+    use super::*;
+    use script::areas::STATE_BYTES;
+
+    /// Each field is read from where it is written.
+    #[test]
+    fn a_state_reads_back() {
+        let bytes: Vec<u8> = (0..STATE_BYTES).map(|place| (place % 251) as u8).collect();
+        assert_eq!(State::from_bytes(&bytes).to_bytes(), bytes);
     }
 }

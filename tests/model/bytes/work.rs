@@ -38,7 +38,7 @@ impl<'a> Work<'a> {
         Work { slots, state, nor, areas, replaced: Vec::new(), met_unerased_page: false }
     }
 
-    pub fn page(&self, slot: usize, page: usize) -> &[u8] {
+    fn page(&self, slot: usize, page: usize) -> &[u8] {
         page_of(&self.areas.nand, slot, page)
     }
 

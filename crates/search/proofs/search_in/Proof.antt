@@ -2,6 +2,7 @@
 use mathlib.Core.Path.{_≡_, refl, ap, _∙_}
 use lib.ListN.{length}
 use borrow.Author.Tests.{not-true, not-false}
+use Rattle.skiplist.specs.Skip.{serialsFrom}
 use Rattle.search.specs.Answers.{searchAnswer}
 use Rattle.search.specs.Turns.{allRows}
 use Rattle.search.proofs.Answered.{begun-at, found-is, counted-is, answer-damage, answer-small, answer-found}
@@ -21,17 +22,18 @@ count-all-requires c κs =
     let a = c .before .before .before .before .before .args in
     let p = c .before .before .before .before .before .pre in
     let l : length (a .t3) ≡ 512 = search needs in
-    (p .0, ((l, p .1), begun-at (a .nand .now) (a .g) (a .q) _ (p .0 .heads-in) (c .before .start-of .ensures)))
+    let b = begun-at (a .nand .now) (a .g) (serialsFrom (a .g .oldest)) (a .q) _ (p .0 .heads-in) (c .before .start-of .ensures) in
+    (p .0, ((l, p .1), b))
 
 returns : tie.Need-returns
 returns c =
     answer-damage _ _ _ (c .before .count-all .ensures) (not-true _ (c .if1 .taken)) ∙ ap (searchAnswer _)
-    (found-is _ _ _ _ _ _ (c .before .before .before .start-of .ensures))
+    (found-is _ _ _ _ _ _ _ (c .before .before .before .start-of .ensures))
 
 returns-2 : tie.Need-returns-2
 returns-2 c =
     answer-small _ _ _ (c .before .before .count-all .ensures) (not-false _ (c .before .if1 .left)) _ refl (c .if2 .taken)
-    ∙ ap (searchAnswer _) (found-is _ _ _ _ _ _ (c .before .before .before .before .start-of .ensures))
+    ∙ ap (searchAnswer _) (found-is _ _ _ _ _ _ _ (c .before .before .before .before .start-of .ensures))
 
 slice-aggregate-write-all : tie.Need-slice-aggregate-write-all
 slice-aggregate-write-all c = search needs
@@ -41,13 +43,13 @@ write-all-requires c κs =
     let a = c .before .before .before .before .before .before .before .before .before .before .args in
     let p = c .before .before .before .before .before .before .before .before .before .before .pre in
     let l : length (a .t3) ≡ 512 = search needs in
-    let o = allRows (a .nand .now) (a .nor .now) (a .t3) (a .g) (a .q)
+    let o = allRows (a .nand .now) (a .nor .now) (a .t3) (a .g) (serialsFrom (a .g .oldest)) (a .q)
     (c .before .before .before .before .before .before .start-of .result) in (
       p .0,
       (
         (l, p .1, omega (arith, c .before .before .if2 .left)),
         (
-          begun-at (a .nand .now) (a .g) (a .q) _ (p .0 .heads-in)
+          begun-at (a .nand .now) (a .g) (serialsFrom (a .g .oldest)) (a .q) _ (p .0 .heads-in)
               (c .before .before .before .before .before .before .start-of .ensures),
           counted-is (a .area .now) o _ (c .before .before .before .before .count-all .ensures)
               (not-false _ (c .before .before .before .if1 .left)),
@@ -63,7 +65,7 @@ returns-3 c =
     answer-found _ _ _ (c .before .before .before .before .before .before .before .count-all .ensures)
     (not-false _ (c .before .before .before .before .before .before .if1 .left)) _ refl
     (c .before .before .before .before .before .if2 .left) _ (c .before .before .write-all .ensures)
-    ∙ ap (searchAnswer _) (found-is _ _ _ _ _ _
+    ∙ ap (searchAnswer _) (found-is _ _ _ _ _ _ _
     (c .before .before .before .before .before .before .before .before .before .start-of .ensures))
 
 pub search-in-spec : {M : Type 1} → statement M

@@ -1,6 +1,7 @@
 -- `search::tally_in` meets its contract: damage, or the counts of what is found.
 use mathlib.Core.Path.{_≡_, ap, _∙_}
 use lib.ListN.{length}
+use Rattle.skiplist.specs.Skip.{serialsFrom}
 use Rattle.search.specs.declared.Tally.{Tally}
 use Rattle.search.specs.Answers.{TallyAnswer, tallyAnswer}
 use Rattle.search.proofs.Answered.{begun-at, found-is}
@@ -29,10 +30,10 @@ no-tally-requires c κs = search needs
 returns : tie.Need-returns
 returns c =
     let a = c .before .before .before .before .before .before .before .before .before .args in
-    ap answer (c .no-tally .ensures) ∙ tally-none (a .nand .now) (a .nor .now) (a .t3) (a .g) (a .q)
+    ap answer (c .no-tally .ensures) ∙ tally-none (a .nand .now) (a .nor .now) (a .t3) (a .g) (serialsFrom (a .g .oldest)) (a .q)
     (c .before .before .before .before .before .before .start-of .result) _
     (c .before .before .before .before .tally-open .ensures) (c .before .if1 .taken)
-    ∙ ap tallyAnswer (found-is (a .nand .now) (a .nor .now) (a .t3) (a .g) (a .q) _
+    ∙ ap tallyAnswer (found-is (a .nand .now) (a .nor .now) (a .t3) (a .g) (serialsFrom (a .g .oldest)) (a .q) _
     (c .before .before .before .before .before .before .start-of .ensures))
 
 tally-closed-requires : tie.Need-tally-closed-requires
@@ -41,9 +42,9 @@ tally-closed-requires c κs =
     let p = c .before .before .before .before .before .before .before .before .before .pre in (
       (p .0 .nand-size, p .1),
       (
-        begun-at (a .nand .now) (a .g) (a .q) _ (p .0 .heads-in)
+        begun-at (a .nand .now) (a .g) (serialsFrom (a .g .oldest)) (a .q) _ (p .0 .heads-in)
             (c .before .before .before .before .before .before .start-of .ensures) .sound,
-        first-few (a .nand .now) (a .nor .now) (a .t3) (a .g) (a .q)
+        first-few (a .nand .now) (a .nor .now) (a .t3) (a .g) (serialsFrom (a .g .oldest)) (a .q)
             (c .before .before .before .before .before .before .start-of .result) _
             (c .before .before .before .before .tally-open .ensures),
       ),
@@ -57,24 +58,24 @@ returns-2 c =
     let a = c .before .before .before .before .before .before .before .before .before .before .before .before .args in
     let p = c .before .before .before .before .before .before .before .before .before .before .before .before .pre in
     ap answer (c .no-tally2 .ensures)
-    ∙ tally-spoilt (a .nand .now) (a .nor .now) (a .t3) (a .g) (a .q) _ _
+    ∙ tally-spoilt (a .nand .now) (a .nor .now) (a .t3) (a .g) (serialsFrom (a .g .oldest)) (a .q) _ _
     (c .before .before .before .before .before .before .before .tally-open .ensures) (p .0 .nand-size)
-    (begun-at (a .nand .now) (a .g) (a .q) _ (p .0 .heads-in)
+    (begun-at (a .nand .now) (a .g) (serialsFrom (a .g .oldest)) (a .q) _ (p .0 .heads-in)
     (c .before .before .before .before .before .before .before .before .before .start-of .ensures))
     (c .before .before .before .before .if1 .left) _ (c .before .before .tally-closed .ensures) (c .before .if2 .taken)
-    ∙ ap tallyAnswer (found-is (a .nand .now) (a .nor .now) (a .t3) (a .g) (a .q) _
+    ∙ ap tallyAnswer (found-is (a .nand .now) (a .nor .now) (a .t3) (a .g) (serialsFrom (a .g .oldest)) (a .q) _
     (c .before .before .before .before .before .before .before .before .before .start-of .ensures))
 
 returns-3 : tie.Need-returns-3
 returns-3 c =
     let a = c .before .before .before .before .before .before .before .before .before .before .before .before .args in
     let p = c .before .before .before .before .before .before .before .before .before .before .before .before .pre in
-    tally-counts (a .nand .now) (a .nor .now) (a .t3) (a .g) (a .q) _ _
+    tally-counts (a .nand .now) (a .nor .now) (a .t3) (a .g) (serialsFrom (a .g .oldest)) (a .q) _ _
     (c .before .before .before .before .before .before .before .tally-open .ensures) (p .0 .nand-size)
-    (begun-at (a .nand .now) (a .g) (a .q) _ (p .0 .heads-in)
+    (begun-at (a .nand .now) (a .g) (serialsFrom (a .g .oldest)) (a .q) _ (p .0 .heads-in)
     (c .before .before .before .before .before .before .before .before .before .start-of .ensures))
     (c .before .before .before .before .if1 .left) _ (c .before .before .tally-closed .ensures) (c .before .if2 .left)
-    ∙ ap tallyAnswer (found-is (a .nand .now) (a .nor .now) (a .t3) (a .g) (a .q) _
+    ∙ ap tallyAnswer (found-is (a .nand .now) (a .nor .now) (a .t3) (a .g) (serialsFrom (a .g .oldest)) (a .q) _
     (c .before .before .before .before .before .before .before .before .before .start-of .ensures))
 
 pub tally-in-spec : {M : Type 1} → statement M

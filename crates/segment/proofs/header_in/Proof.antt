@@ -1,14 +1,19 @@
 -- `header_in`: each field as read.
 use Rattle.segment.proofs.Tests.{header-made}
+use native.Mathlib.Omega.{arith}
+use Rattle.segment.proofs.HeaderBytes.{serial-most}
 use borrow.Author.Needs.{needs}
 use Rattle.segment.proofs.header_in.Statement.{statement}
 use Rattle.segment.proofs.header_in.Tie as tie
+
+form-in-requires : tie.Need-form-in-requires
+form-in-requires c κs = search needs
 
 get-u32-requires : tie.Need-get-u32-requires
 get-u32-requires c κs = search needs
 
 pointers-at-requires : tie.Need-pointers-at-requires
-pointers-at-requires c κs = search needs
+pointers-at-requires c κs = omega (arith, serial-most (c .before .before .before .args .form), c .before .before .before .pre)
 
 counts-in-requires : tie.Need-counts-in-requires
 counts-in-requires c κs = search needs
@@ -37,8 +42,8 @@ get-u32-requires-3 c κs = search needs
 returns : tie.Need-returns
 returns c =
     let p = c .before .before .before .before .before in
-    header-made _ _ _ _ _ _ _ _ _ _ _ _ _ (p .before .before .before .before .get-u32 .ensures)
-    (p .before .before .before .pointers-at .ensures)
+    header-made _ _ _ _ _ _ _ _ _ _ _ _ _ _ _ (p .before .before .before .before .before .form-in .ensures)
+    (p .before .before .before .before .get-u32 .ensures) (p .before .before .before .pointers-at .ensures)
     (p .before .before .counts-in .ensures) (p .before .span-in .ensures) (p .pointers-good .ensures)
     (c .before .before .before .before .get-u16 .ensures)
     (c .before .before .before .get-u8 .ensures) (c .before .before .get-u64 .ensures) (c .before .get-u322 .ensures)
@@ -48,6 +53,7 @@ pub header-in-spec : {M : Type 1} → statement M
 header-in-spec =
     tie.close
     (tie.spec
+    form-in-requires
     get-u32-requires
     pointers-at-requires
     counts-in-requires

@@ -2,6 +2,8 @@
 use mathlib.Core.Path.{_≡_}
 use lib.ListN.{length}
 use Rattle.segment.proofs.HeaderBytes.{page-put}
+use native.Mathlib.Omega.{arith}
+use Rattle.segment.proofs.HeaderBytes.{serial-most}
 use borrow.Author.Needs.{needs}
 use Rattle.segment.proofs.header_page.Statement.{statement}
 use Rattle.segment.proofs.header_page.Tie as tie
@@ -31,7 +33,9 @@ slice-aggregate-put-pointers : tie.Need-slice-aggregate-put-pointers
 slice-aggregate-put-pointers c = search needs
 
 put-pointers-requires : tie.Need-put-pointers-requires
-put-pointers-requires c κs = search needs
+put-pointers-requires c κs =
+    let z = c .before .before .before .before .before .before .before in
+    omega (arith, serial-most (z .before .before .before .before .args .c .form))
 
 returns : tie.Need-returns
 returns c =

@@ -45,8 +45,8 @@ cast-put-u8-3 c = search needs
 put-u8-requires-4 : tie.Need-put-u8-requires-4
 put-u8-requires-4 c κs = search needs
 
-fill-requires : tie.Need-fill-requires
-fill-requires c κs = search needs
+put-form-requires : tie.Need-put-form-requires
+put-form-requires c κs = search needs
 
 same-length : tie.Need-same-length
 same-length c = search needs
@@ -61,9 +61,9 @@ returns c =
     let e2 = e3 .before .before .before .before in
     let e1 = e2 .before .before .before .before in
     let l = e1 .before .before in
-    counts-put _ _ _ _ _ _ _ (l .before .before .before .before .pre .0) (l .before .before .sections-of .ensures)
+    counts-put _ _ _ _ _ _ _ _ (l .before .before .before .before .pre .0) (l .before .before .sections-of .ensures)
     (l .before .fragment-of .ensures) (l .level-of .ensures .0) _ _ _ _ _ _ _ (e1 .put-u32 .ensures) (e2 .put-u16 .ensures)
-    (e3 .put-u8 .ensures) (e4 .put-u82 .ensures) (e5 .put-u83 .ensures) (e6 .put-u84 .ensures) (e7 .fill .ensures)
+    (e3 .put-u8 .ensures) (e4 .put-u82 .ensures) (e5 .put-u83 .ensures) (e6 .put-u84 .ensures) (e7 .put-form .ensures)
 
 pub put-counts-spec : {M : Type 1} → statement M
 put-counts-spec =
@@ -81,6 +81,6 @@ put-counts-spec =
     put-u8-requires-3
     cast-put-u8-3
     put-u8-requires-4
-    fill-requires
+    put-form-requires
     same-length
     returns)

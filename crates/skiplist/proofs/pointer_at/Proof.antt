@@ -1,26 +1,33 @@
-use Rattle.skiplist.specs.PointerBytes.{pointerAt}
-use Rattle.skiplist.specs.Skip.{pointer}
-use mathlib.Core.Path.{ap₂, _∙_}
+use native.Mathlib.Omega.{arith}
 use borrow.Author.Needs.{needs}
 use Rattle.skiplist.proofs.pointer_at.Statement.{statement}
 use Rattle.skiplist.proofs.pointer_at.Tie as tie
 
-get-u16-requires : tie.Need-get-u16-requires
-get-u16-requires c κs = search needs
+enum-told : tie.Need-enum-told
+enum-told c = search needs
 
-add-get-u64 : tie.Need-add-get-u64
-add-get-u64 c = search needs
+old-pointer-at-requires : tie.Need-old-pointer-at-requires
+old-pointer-at-requires c κs = search needs
 
-get-u64-requires : tie.Need-get-u64-requires
-get-u64-requires c κs = search needs
+enum-told-2 : tie.Need-enum-told-2
+enum-told-2 c = search needs
 
-new-requires : tie.Need-new-requires
-new-requires c κs = search needs
+new-pointer-at-requires : tie.Need-new-pointer-at-requires
+new-pointer-at-requires c κs = let f = rw (c .enum-told2 .given .1) at (c .before .before .before .pre) in omega arith
 
 returns : tie.Need-returns
-unfolding pointerAt
-returns c = c .new .ensures ∙ ap₂ pointer (c .before .before .get-u16 .ensures) (c .before .get-u64 .ensures)
+returns c = rw (c .before .enum-told .given .1) (c .old-pointer-at .ensures)
+
+returns-2 : tie.Need-returns-2
+returns-2 c = rw (c .before .enum-told2 .given .1) (c .new-pointer-at .ensures)
 
 pub pointer-at-spec : {M : Type 1} → statement M
 pointer-at-spec =
-    tie.close (tie.spec get-u16-requires add-get-u64 get-u64-requires new-requires returns)
+    tie.close
+    (tie.spec
+    enum-told
+    old-pointer-at-requires
+    enum-told-2
+    new-pointer-at-requires
+    returns
+    returns-2)

@@ -21,9 +21,6 @@ get-u8-requires c κs = search needs
 get-u64-requires : tie.Need-get-u64-requires
 get-u64-requires c κs = search needs
 
-get-u64-requires-2 : tie.Need-get-u64-requires-2
-get-u64-requires-2 c κs = search needs
-
 pointers-at-requires : tie.Need-pointers-at-requires
 pointers-at-requires c κs = search needs
 
@@ -36,8 +33,8 @@ page-at-requires c κs = search needs
 bloom-at-requires : tie.Need-bloom-at-requires
 bloom-at-requires c κs = search needs
 
-get-u64-requires-3 : tie.Need-get-u64-requires-3
-get-u64-requires-3 c κs = search needs
+get-u64-requires-2 : tie.Need-get-u64-requires-2
+get-u64-requires-2 c κs = search needs
 
 load-at-requires : tie.Need-load-at-requires
 load-at-requires c κs = search needs
@@ -48,17 +45,16 @@ load-at-requires-2 c κs = search needs
 returns : tie.Need-returns
 returns c =
     read _ _
-    (c .before .before .before .before .before .before .before .before .before .before .before .before .get-u32 .ensures)
-    (c .before .before .before .before .before .before .before .before .before .before .before .get-u322 .ensures)
-    (c .before .before .before .before .before .before .before .before .before .before .get-u16 .ensures)
-    (c .before .before .before .before .before .before .before .before .before .get-u8 .ensures)
-    (c .before .before .before .before .before .before .before .before .get-u64 .ensures)
-    (c .before .before .before .before .before .before .before .get-u642 .ensures)
+    (c .before .before .before .before .before .before .before .before .before .before .before .get-u32 .ensures)
+    (c .before .before .before .before .before .before .before .before .before .before .get-u322 .ensures)
+    (c .before .before .before .before .before .before .before .before .before .get-u16 .ensures)
+    (c .before .before .before .before .before .before .before .before .get-u8 .ensures)
+    (c .before .before .before .before .before .before .before .get-u64 .ensures)
     (c .before .before .before .before .before .before .pointers-at .ensures)
     (c .before .before .before .before .before .loads-at .ensures)
     (c .before .before .before .before .page-at .ensures)
     (c .before .before .before .bloom-at .ensures)
-    (c .before .before .get-u643 .ensures)
+    (c .before .before .get-u642 .ensures)
     (read-back _ _ (c .before .load-at .ok) (c .before .load-at .ensures))
     (read-back _ _ (c .load-at2 .ok) (c .load-at2 .ensures))
 
@@ -71,12 +67,11 @@ get-state-spec =
     get-u16-requires
     get-u8-requires
     get-u64-requires
-    get-u64-requires-2
     pointers-at-requires
     loads-at-requires
     page-at-requires
     bloom-at-requires
-    get-u64-requires-3
+    get-u64-requires-2
     load-at-requires
     load-at-requires-2
     returns)

@@ -1,4 +1,4 @@
--- `state_bytes::put_counters` meets its contract: six fields side by side are one write.
+-- `state_bytes::put_counters` meets its contract: five fields side by side are one write.
 use Rattle.state_bytes.proofs.Writing.{counters-put}
 use native.Mathlib.Omega.{arith}
 use borrow.Author.Needs.{needs}
@@ -20,21 +20,17 @@ put-u8-requires c κs = search needs
 put-u64-requires : tie.Need-put-u64-requires
 put-u64-requires c κs = search needs
 
-put-u64-requires-2 : tie.Need-put-u64-requires-2
-put-u64-requires-2 c κs = search needs
-
 same-length : tie.Need-same-length
 same-length c = search needs
 
 returns : tie.Need-returns
 returns c =
-    counters-put _ _ _ _ _ _ _ (c .before .before .before .before .before .before .before .before .before .before .before .before .before .before .before .before .before .before .before .before .before .before .before .before .before .args .c) (omega arith)
-    (c .before .before .before .before .before .before .before .before .before .before .before .before .before .before .before .before .before .before .before .before .before .before .put-u32 .ensures)
-    (c .before .before .before .before .before .before .before .before .before .before .before .before .before .before .before .before .before .before .put-u322 .ensures)
-    (c .before .before .before .before .before .before .before .before .before .before .before .before .before .before .put-u16 .ensures)
-    (c .before .before .before .before .before .before .before .before .before .before .put-u8 .ensures)
-    (c .before .before .before .before .before .before .put-u64 .ensures)
-    (c .before .before .put-u642 .ensures)
+    counters-put _ _ _ _ _ _ (c .before .before .before .before .before .before .before .before .before .before .before .before .before .before .before .before .before .before .before .before .before .args .c) (omega arith)
+    (c .before .before .before .before .before .before .before .before .before .before .before .before .before .before .before .before .before .before .put-u32 .ensures)
+    (c .before .before .before .before .before .before .before .before .before .before .before .before .before .before .put-u322 .ensures)
+    (c .before .before .before .before .before .before .before .before .before .before .put-u16 .ensures)
+    (c .before .before .before .before .before .before .put-u8 .ensures)
+    (c .before .before .put-u64 .ensures)
 
 pub put-counters-spec : {M : Type 1} → statement M
 put-counters-spec =
@@ -45,6 +41,5 @@ put-counters-spec =
     put-u16-requires
     put-u8-requires
     put-u64-requires
-    put-u64-requires-2
     same-length
     returns)

@@ -21,9 +21,9 @@ returns : tie.Need-returns
 returns c =
     let w = c .before .before .before .before .before .before .before .before .before .before .before .before .before .before in
     let s = w .args .s in
-    let told = c .before .before .before .before .before .before .before .before .struct-told .given .1 .1 .1 .1 .1 .1 .1 .1 .1 .1 .1 in
+    let told = c .before .before .before .before .before .before .before .before .struct-told .given .1 .1 .1 .1 .1 .1 .1 .1 .1 .1 in
     state-put _ _ _ s _ _ (w .pre)
-    (field-length (u8-field .into) (s .page) 512 (w .good .1 .0 .1 .1 .1 .1 .1 .1 .1 .1 .1 .1 .0 .1 .0 .1))
+    (field-length (u8-field .into) (s .page) 512 (w .good .1 .0 .1 .1 .1 .1 .1 .1 .1 .1 .1 .0 .1 .0 .1))
     (read-back (s .low) (s .low) (told .0 .1) refl) (read-back (s .high) (s .high) (told .1 .0 .1) refl)
     (c .before .before .before .before .before .before .put-page .ensures) (c .before .before .put-around .ensures)
 

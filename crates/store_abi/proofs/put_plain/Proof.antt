@@ -28,7 +28,7 @@ put-lift-requires c κs =
     let s = c .before .before .before .before .before .before .before .before .before .before in
     let code = c .before .before .before .before .before .before .before .stored .ensures ∙ ap stored (toZ-ofZ w32 (s .args .load) (s .fits .load)) in
     let n = s .pre .0 in
-    (n .0, n .1, s .pre .1 .0, omega (arith, within-limits (s .args .load) (s .pre .1 .1) .low, code))
+    (n .0, n .1, omega (arith, within-limits (s .args .load) (s .pre .1) .low, code))
 
 same-length : tie.Need-same-length
 same-length c = search needs

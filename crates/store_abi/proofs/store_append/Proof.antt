@@ -57,7 +57,7 @@ put-plain-requires c κs =
     let a = c .before .before .before .before .before .before .before .before .before .before .before .before .before .before .before .args in
     let t = accepted (c .before .before .before .before) in
     let f = fits (a .state .now) (a .nand .now) (a .nor .now) _ _ _ _ _ (c .before .before .before .before .before .before .before .before .get-state .ensures) t in
-    ((c .before .before .before .before .before .before .before .before .before .before .before .if1 .left, f .lifts, f .tree, f .few, f .fitting), (t .timely, t .load-ok))
+    ((c .before .before .before .before .before .before .before .before .before .before .before .if1 .left, f .lifts, f .tree, f .few, f .fitting), t .load-ok)
 
 same-length-4 : tie.Need-same-length-4
 same-length-4 c = search needs
@@ -81,7 +81,7 @@ returns-3 c =
 carried-out-requires : tie.Need-carried-out-requires
 carried-out-requires c κs =
     let t = accepted (c .before .before .before .before) in
-    ((t .bounds, t .suits), (t .timely, t .load-ok))
+    ((t .bounds, t .suits), t .load-ok)
 
 put-state-requires : tie.Need-put-state-requires
 put-state-requires c κs = search needs

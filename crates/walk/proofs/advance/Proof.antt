@@ -3,6 +3,7 @@ use mathlib.Core.Path.{ap, _∙_}
 use lib.ListN.{length}
 use Rattle.codec.proofs.Areas.{length-part}
 use Rattle.walk.proofs.Steps.{advance-end, advance-inside, advance-damage, header-sound, advance-pass, advance-visit}
+use Rattle.skiplist.specs.Skip.{serialsFrom}
 use borrow.Author.Needs.{needs}
 use native.Mathlib.Omega.{arith}
 use Rattle.walk.proofs.advance.Statement.{statement}
@@ -20,8 +21,8 @@ cast-slot c = search needs
 pages-of-requires : tie.Need-pages-of-requires
 pages-of-requires c κs =
     let a = c .before .before .before .before .before .before .args in (
-      advance-inside (a .nand .now) (a .slots) (a .live) (a .q) (a .c) _ (c .before .before .before .is-live .ensures)
-          (c .before .if1 .left) (c .before .before .before .before .before .before .pre .0 .0)
+      advance-inside (a .nand .now) (a .slots) (serialsFrom (a .oldest)) (a .q) (a .c) _
+          (c .before .before .before .is-live .ensures) (c .before .if1 .left) (c .before .before .before .before .before .before .pre .0 .0)
           (c .before .before .before .before .before .before .pre .1),
       omega arith,
       omega arith,
@@ -45,21 +46,23 @@ is-passed-requires c κs =
     let h = c .before .before .before .before .before in
     let s = h .before .before .before .before .before .before .before .before in
     let f =
-    header-sound _ _ _ (s .args .q) (s .args .c) _ (h .before .before .before .before .before .is-live .ensures) (h .before .before .before .if1 .left) _ (h .before .pages-of .ensures)
-    _ (h .header-in .ensures) (c .before .before .before .before .if2 .left) .counts in
+    header-sound _ _ _ (s .args .q) (s .args .c) _ (h .before .before .before .before .before .is-live .ensures)
+    (h .before .before .before .if1 .left) _ (h .before .pages-of .ensures) _ (h .header-in .ensures) (c .before .before .before .before .if2 .left) .counts in
     (pages-of-requires (h .before .before) κs .0, f .some, f .most, s .pre .0 .1)
 
 returns-3 : tie.Need-returns-3
 returns-3 c =
     let h = c .before .before .before .before .before .before .before in
-    advance-pass _ _ _ _ _ _ (h .before .before .before .before .before .is-live .ensures) (h .before .before .before .if1 .left) _ (h .before .pages-of .ensures) _ (h .header-in .ensures)
-    (c .before .before .before .before .before .before .if2 .left) _ (c .before .is-passed .ensures) _ (c .before .before .before .before .pointer-of .ensures) (c .if3 .taken)
+    advance-pass _ _ _ _ _ _ (h .before .before .before .before .before .is-live .ensures) (h .before .before .before .if1 .left) _
+    (h .before .pages-of .ensures) _ (h .header-in .ensures) (c .before .before .before .before .before .before .if2 .left) _
+    (c .before .is-passed .ensures) _ (c .before .before .before .before .pointer-of .ensures) (c .if3 .taken)
 
 returns-4 : tie.Need-returns-4
 returns-4 c =
     let h = c .before .before .before .before .before .before .before in
-    advance-visit _ _ _ _ _ _ (h .before .before .before .before .before .is-live .ensures) (h .before .before .before .if1 .left) _ (h .before .pages-of .ensures) _ (h .header-in .ensures)
-    (c .before .before .before .before .before .before .if2 .left) _ (c .before .is-passed .ensures) _ (c .before .before .before .before .pointer-of .ensures) (c .if3 .left)
+    advance-visit _ _ _ _ _ _ (h .before .before .before .before .before .is-live .ensures) (h .before .before .before .if1 .left) _
+    (h .before .pages-of .ensures) _ (h .header-in .ensures) (c .before .before .before .before .before .before .if2 .left) _
+    (c .before .is-passed .ensures) _ (c .before .before .before .before .pointer-of .ensures) (c .if3 .left)
 
 pub advance-spec : {M : Type 1} → statement M
 advance-spec =

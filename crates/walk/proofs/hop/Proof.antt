@@ -4,6 +4,7 @@ use Prim.Native.Nat.{_-_}
 use lib.ListN.{length}
 use Rattle.codec.proofs.Areas.{length-part}
 use Rattle.walk.proofs.Hops.{hop-down, hop-inside, hop-on, hop-spoilt}
+use Rattle.skiplist.specs.Skip.{serialsFrom}
 use borrow.Author.Needs.{needs}
 use native.Mathlib.Omega.{arith}
 use Rattle.walk.proofs.hop.Statement.{statement}
@@ -29,7 +30,7 @@ cast-slot c = search needs
 pages-of-requires : tie.Need-pages-of-requires
 pages-of-requires c κs =
     let a = c .before .before .before .before .before .before .before .before .args in (
-      hop-inside (a .nand .now) (a .slots) (a .live) (a .t2) (a .w) (a .w .level - 1) _
+      hop-inside (a .nand .now) (a .slots) (serialsFrom (a .oldest)) (a .t2) (a .w) (a .w .level - 1) _
           (c .before .before .before .before .pointer-of .ensures) _ (c .before .before .before .is-live .ensures)
           (c .before .if1 .left)
           (c .before .before .before .before .before .before .before .before .pre .0 .0)

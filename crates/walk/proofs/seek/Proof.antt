@@ -1,6 +1,7 @@
 -- `walk::seek` meets its contract: the hops that are left lead from here to where they lead from the heads.
 use mathlib.Core.Path.{_≡_, refl, sym, _∙_}
 use Prim.Native.Nat.{suc, _-_}
+use Rattle.skiplist.specs.Skip.{serialsFrom}
 use Rattle.walk.specs.Seek.{hops, skipWalk}
 use Rattle.walk.proofs.Hops.{hopsLeft, Walked, hop-walked, left-level, hop-falls, walk-step, walk-end, walk-starts}
 use native.Mathlib.Omega.{arith}
@@ -9,7 +10,8 @@ use Rattle.walk.proofs.seek.Tie as tie
 
 abbrev Inv-loop : tie.InvT-loop
 Inv-loop nand g t2 w₀ w =
-    Walked (g .slots) (g .current) w × (hops (hopsLeft w) nand (g .slots) (g .live) t2 w ≡ skipWalk nand g t2)
+    let live = serialsFrom (g .oldest) in
+    Walked (g .slots) (g .current) w × (hops (hopsLeft w) nand (g .slots) live t2 w ≡ skipWalk nand g live t2)
 
 abbrev μ-loop : tie.MeasureT-loop
 μ-loop nand g t2 w₀ w = hopsLeft w

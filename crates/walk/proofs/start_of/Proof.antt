@@ -5,7 +5,7 @@ use Rattle.walk.proofs.start_of.Statement.{statement}
 use Rattle.walk.proofs.start_of.Tie as tie
 
 returns : tie.Need-returns
-returns c = start-none _ _ _ (c .if1 .taken)
+returns c = start-none _ _ _ _ (c .if1 .taken)
 
 seek-requires : tie.Need-seek-requires
 seek-requires c κs = search needs
@@ -15,7 +15,7 @@ pointer-of-requires c κs = search needs
 
 returns-2 : tie.Need-returns-2
 returns-2 c =
-    start-reached _ _ _ (c .before .before .before .if1 .left) _ (c .before .before .seek .ensures) _ (c .pointer-of .ensures)
+    start-reached _ _ _ _ (c .before .before .before .if1 .left) _ (c .before .before .seek .ensures) _ (c .pointer-of .ensures)
 
 pub start-of-spec : {M : Type 1} → statement M
 start-of-spec = tie.close (tie.spec returns seek-requires pointer-of-requires returns-2)

@@ -5,10 +5,10 @@ use Rattle.plain_list.proofs.notes.note_of.Statement.{statement}
 use Rattle.plain_list.proofs.notes.note_of.Tie as tie
 
 abbrev Inv-loop : tie.InvT-loop
-Inv-loop time note₀ j₀ note j = j ≤ 20
+Inv-loop number note₀ j₀ note j = j ≤ 20
 
 abbrev μ-loop : tie.MeasureT-loop
-μ-loop time note₀ j₀ note j = 20 - j
+μ-loop number note₀ j₀ note j = 20 - j
 
 loop-holds : tie.Need-loop-holds Inv-loop μ-loop
 loop-holds c = search needs

@@ -6,10 +6,10 @@ use Rattle.random_calls.proofs.compare.row_agrees.Statement.{statement}
 use Rattle.random_calls.proofs.compare.row_agrees.Tie as tie
 
 abbrev Inv-loop : tie.InvT-loop
-Inv-loop area row time code at j₀ j = (j ≤ 32) × (at + 32 ≤ length area)
+Inv-loop area row time code number at j₀ j = (j ≤ 32) × (at + 32 ≤ length area)
 
 abbrev μ-loop : tie.MeasureT-loop
-μ-loop area row time code at j₀ j = 32 - j
+μ-loop area row time code number at j₀ j = 32 - j
 
 mul-at : tie.Need-mul-at Inv-loop μ-loop
 mul-at c = search needs

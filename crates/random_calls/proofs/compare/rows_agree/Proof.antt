@@ -22,6 +22,9 @@ time-at-requires c κs = search needs
 code-at-requires : tie.Need-code-at-requires Inv-loop μ-loop
 code-at-requires c κs = search needs
 
+number-at-requires : tie.Need-number-at-requires Inv-loop μ-loop
+number-at-requires c κs = search needs
+
 row-agrees-requires : tie.Need-row-agrees-requires Inv-loop μ-loop
 row-agrees-requires c κs = search needs
 
@@ -53,6 +56,7 @@ rows-agree-spec =
     next-found-requires
     time-at-requires
     code-at-requires
+    number-at-requires
     row-agrees-requires
     returns
     add-from

@@ -1,14 +1,14 @@
--- Columns stay at most 12.
+-- Columns stay at most 13.
 use Prim.Native.Nat.{_-_, _≤_}
 use borrow.Author.Needs.{needs}
 use Rattle.random_calls.proofs.print.columns.Statement.{statement}
 use Rattle.random_calls.proofs.print.columns.Tie as tie
 
 abbrev Inv-loop : tie.InvT-loop
-Inv-loop counts i₀ i = i ≤ 12
+Inv-loop counts i₀ i = i ≤ 13
 
 abbrev μ-loop : tie.MeasureT-loop
-μ-loop counts i₀ i = 12 - i
+μ-loop counts i₀ i = 13 - i
 
 loop-holds : tie.Need-loop-holds Inv-loop μ-loop
 loop-holds c = search needs

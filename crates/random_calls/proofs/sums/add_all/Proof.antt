@@ -1,4 +1,4 @@
--- Places stay below 25, and the totals keep their length.
+-- Places stay below 26, and the totals keep their length.
 use Prim.Native.Nat.{_-_, _≤_}
 use mathlib.Core.Path.{_≡_}
 use lib.ListN.{length}
@@ -7,10 +7,10 @@ use Rattle.random_calls.proofs.sums.add_all.Statement.{statement}
 use Rattle.random_calls.proofs.sums.add_all.Tie as tie
 
 abbrev Inv-loop : tie.InvT-loop
-Inv-loop totals₀ counts i₀ totals i = (i ≤ 25) × (length totals ≡ length totals₀)
+Inv-loop totals₀ counts i₀ totals i = (i ≤ 26) × (length totals ≡ length totals₀)
 
 abbrev μ-loop : tie.MeasureT-loop
-μ-loop totals₀ counts i₀ totals i = 25 - i
+μ-loop totals₀ counts i₀ totals i = 26 - i
 
 loop-holds : tie.Need-loop-holds Inv-loop μ-loop
 loop-holds c = search needs

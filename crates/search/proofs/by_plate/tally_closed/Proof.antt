@@ -1,4 +1,5 @@
 -- `search::by_plate::tally_closed` meets its contract: what is counted and what is left come to the whole.
+use Rattle.skiplist.specs.Skip.{serialsFrom}
 use Rattle.search.specs.Turns.{rowsAfter, tallyOf}
 use Rattle.search.proofs.PlateTurns.{TallyGoes, tally-starts, tally-room, tally-again, tally-over}
 use native.Mathlib.Omega.{arith}
@@ -6,11 +7,12 @@ use Rattle.search.proofs.by_plate.tally_closed.Statement.{statement}
 use Rattle.search.proofs.by_plate.tally_closed.Tie as tie
 
 abbrev Inv-loop : tie.InvT-loop
-Inv-loop nand slots live q r₀ r =
+Inv-loop nand slots oldest q r₀ r =
+    let live = serialsFrom oldest in
     TallyGoes nand slots live q (tallyOf (r₀ .n .counts) (rowsAfter nand slots live q (r₀ .c))) (r₀ .c .before) r
 
 abbrev μ-loop : tie.MeasureT-loop
-μ-loop nand slots live q r₀ r = r .c .before
+μ-loop nand slots oldest q r₀ r = r .c .before
 
 loop-holds : tie.Need-loop-holds Inv-loop μ-loop
 loop-holds c = tally-starts _ _ _ _ _ _ (c .before .pre .1 .0) (c .before .pre .1 .1)

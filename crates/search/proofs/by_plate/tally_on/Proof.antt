@@ -1,5 +1,6 @@
 -- `search::by_plate::tally_on` meets its contract: the end, damage, a segment passed over, a segment counted.
 use mathlib.Core.Path.{sym, _∙_}
+use Rattle.skiplist.specs.Skip.{serialsFrom}
 use Rattle.search.proofs.PlateTurns.{tally-end, tally-damage, tally-pass, tally-visit}
 use Rattle.search.proofs.Segments.{visit-facts}
 use borrow.Author.Needs.{needs}
@@ -28,7 +29,7 @@ tally-one-requires : tie.Need-tally-one-requires
 tally-one-requires c κs =
     let a = c .before .before .before .before .before .before .before .before .args in
     let p = c .before .before .before .before .before .before .before .before .pre in (
-      visit-facts (a .nand .now) (a .slots) (a .live) (a .q) (p .0 .0) (a .r .c) (p .1 .0) _ _
+      visit-facts (a .nand .now) (a .slots) (serialsFrom (a .oldest)) (a .q) (p .0 .0) (a .r .c) (p .1 .0) _ _
           (sym (c .before .before .before .before .advance .ensures) ∙ c .before .before .step2 .given .1) .0,
       p .1 .1 .1,
     )

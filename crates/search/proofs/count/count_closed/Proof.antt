@@ -1,5 +1,6 @@
 -- `search::count::count_closed` meets its contract: what is counted and what is left come to the whole.
 use mathlib.Core.Path.{refl}
+use Rattle.skiplist.specs.Skip.{serialsFrom}
 use Rattle.search.specs.Turns.{rowsAfter, countOf}
 use Rattle.search.proofs.Counts.{CountGoes, count-again, count-over}
 use native.Mathlib.Omega.{arith}
@@ -7,11 +8,12 @@ use Rattle.search.proofs.count.count_closed.Statement.{statement}
 use Rattle.search.proofs.count.count_closed.Tie as tie
 
 abbrev Inv-loop : tie.InvT-loop
-Inv-loop nand slots live q total r₀ r =
+Inv-loop nand slots oldest q total r₀ r =
+    let live = serialsFrom oldest in
     CountGoes nand slots live q (countOf total (rowsAfter nand slots live q (r₀ .c))) (r₀ .c .before) r
 
 abbrev μ-loop : tie.MeasureT-loop
-μ-loop nand slots live q total r₀ r = r .c .before
+μ-loop nand slots oldest q total r₀ r = r .c .before
 
 loop-holds : tie.Need-loop-holds Inv-loop μ-loop
 loop-holds c = record { busy = refl; good = refl; sound = c .before .pre .1; leads = refl; room = omega arith }

@@ -1,5 +1,6 @@
 -- `search::count::count_on` meets its contract: the end, damage, a segment passed over, a segment counted.
 use mathlib.Core.Path.{sym, _∙_}
+use Rattle.skiplist.specs.Skip.{serialsFrom}
 use Rattle.search.proofs.Counts.{count-end, count-damage, count-pass, count-visit}
 use Rattle.search.proofs.Segments.{visit-facts}
 use borrow.Author.Needs.{needs}
@@ -24,7 +25,7 @@ enum-known-step-2 c = search needs
 count-one-requires : tie.Need-count-one-requires
 count-one-requires c κs =
     let a = c .before .before .before .before .before .before .before .args in (
-      visit-facts (a .nand .now) (a .slots) (a .live) (a .q)
+      visit-facts (a .nand .now) (a .slots) (serialsFrom (a .oldest)) (a .q)
           (c .before .before .before .before .before .before .before .pre .0 .0) (a .r .c)
           (c .before .before .before .before .before .before .before .pre .1 .0) _ _
           (sym (c .before .before .before .advance .ensures) ∙ c .before .step2 .given .1) .0,

@@ -1,5 +1,6 @@
 -- `search::write::write_all` meets its contract: the open segment's rows up to the total, then those of the closed ones before
 -- them.
+use Rattle.skiplist.specs.Skip.{serialsFrom}
 use Rattle.search.proofs.Answered.{open-fits, closed-count, all-written}
 use borrow.Author.Needs.{needs}
 use native.Mathlib.Omega.{arith}
@@ -14,8 +15,8 @@ write-open-requires c κs =
       (
         p .1 .0 .0,
         (
-          open-fits (a .nand .now) (a .nor .now) (a .page .now) (a .g) (a .q) (a .c) (p .0 .nand-size) (p .1 .1 .0)
-              (a .total) (p .1 .1 .1),
+          open-fits (a .nand .now) (a .nor .now) (a .page .now) (a .g) (serialsFrom (a .g .oldest)) (a .q) (a .c)
+              (p .0 .nand-size) (p .1 .1 .0) (a .total) (p .1 .1 .1),
           p .1 .0 .2,
         ),
       ),
@@ -29,8 +30,8 @@ write-closed-requires c κs =
       (p .0 .nand-size, p .1 .0 .1, omega (arith, u .begins, c .before .before .before .write-open .kept .0, p .1 .0 .2)),
       (
         p .1 .1 .0 .sound,
-        closed-count (a .nand .now) (a .nor .now) (a .page .now) (a .g) (a .q) (a .c) (p .0 .nand-size) (p .1 .1 .0) (a .total)
-            (p .1 .1 .1) (a .area .now) _ _ (p .1 .0 .2) u,
+        closed-count (a .nand .now) (a .nor .now) (a .page .now) (a .g) (serialsFrom (a .g .oldest)) (a .q) (a .c)
+            (p .0 .nand-size) (p .1 .1 .0) (a .total) (p .1 .1 .1) (a .area .now) _ _ (p .1 .0 .2) u,
       ),
     )
 
@@ -40,7 +41,7 @@ same-length c = search needs
 returns : tie.Need-returns
 returns c =
     let p = c .before .before .before .before .before .before .before .before .before .before .before .before .pre in
-    all-written _ _ _ _ _ _ (p .0 .nand-size) (p .1 .1 .0) _ (p .1 .1 .1) _ _ _ (p .1 .0 .2)
+    all-written _ _ _ _ _ _ _ (p .0 .nand-size) (p .1 .1 .0) _ (p .1 .1 .1) _ _ _ (p .1 .0 .2)
     (c .before .before .before .before .before .before .write-open .ensures) _ (c .before .before .write-closed .ensures)
 
 pub write-all-spec : {M : Type 1} → statement M

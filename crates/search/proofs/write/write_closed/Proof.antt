@@ -1,17 +1,19 @@
 -- `search::write::write_closed` meets its contract: what is written and what is left come to the whole.
 use mathlib.Core.Path.{refl, _∙_}
 use lib.ListN.{length}
+use Rattle.skiplist.specs.Skip.{serialsFrom}
 use Rattle.search.specs.Turns.{rowsAfter, writtenIn}
 use Rattle.search.proofs.Written.{WriteGoes, write-again, write-over}
 use Rattle.search.proofs.write.write_closed.Statement.{statement}
 use Rattle.search.proofs.write.write_closed.Tie as tie
 
 abbrev Inv-loop : tie.InvT-loop
-Inv-loop area₀ nand slots live q row w₀ area w =
+Inv-loop area₀ nand slots oldest q row w₀ area w =
+    let live = serialsFrom oldest in
     WriteGoes nand slots live q (writtenIn area₀ (rowsAfter nand slots live q (w₀ .c))) (length area₀) area w
 
 abbrev μ-loop : tie.MeasureT-loop
-μ-loop area₀ nand slots live q row w₀ area w = w .c .before
+μ-loop area₀ nand slots oldest q row w₀ area w = w .c .before
 
 loop-holds : tie.Need-loop-holds Inv-loop μ-loop
 loop-holds c =

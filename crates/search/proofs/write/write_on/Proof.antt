@@ -1,5 +1,6 @@
 -- `search::write::write_on` meets its contract: the end, no damage, a segment passed over, a segment written.
 use mathlib.Core.Path.{sym, _∙_}
+use Rattle.skiplist.specs.Skip.{serialsFrom}
 use Rattle.search.proofs.Segments.{visit-facts}
 use Rattle.search.proofs.Written.{write-end, write-damage, write-pass, visit-fits, write-visit}
 use borrow.Author.Needs.{needs}
@@ -26,10 +27,10 @@ write-one-requires c κs =
     let a = c .before .before .before .before .before .before .before .before .args in
     let p = c .before .before .before .before .before .before .before .before .pre in
     let e = sym (c .before .before .before .before .advance .ensures) ∙ c .before .before .step2 .given .1 in (
-      visit-facts (a .nand .now) (a .slots) (a .live) (a .q) (p .0 .0) (a .w .c) (p .1 .0) _ _ e .0,
+      visit-facts (a .nand .now) (a .slots) (serialsFrom (a .oldest)) (a .q) (p .0 .0) (a .w .c) (p .1 .0) _ _ e .0,
       (
-        visit-fits (a .nand .now) (a .slots) (a .live) (a .q) (p .0 .0) (a .area .now) (a .w) (p .1 .0) (p .1 .1 .0) (p .1 .1 .1) _
-            _ e,
+        visit-fits (a .nand .now) (a .slots) (serialsFrom (a .oldest)) (a .q) (p .0 .0) (a .area .now) (a .w) (p .1 .0)
+            (p .1 .1 .0) (p .1 .1 .1) _ _ e,
         p .0 .2,
       ),
     )

@@ -50,7 +50,7 @@ carried-out-requires c κs =
     let n = c .before .before in
     let s = n .before .before .before .before .before .before in
     let t = accepted n in
-    ((t .bounds, t .suits), (t .timely, ap loadOk (toZ-ofZ w32 (s .args .load) (s .fits .load)) ∙ t .load-ok))
+    ((t .bounds, t .suits), ap loadOk (toZ-ofZ w32 (s .args .load) (s .fits .load)) ∙ t .load-ok)
 
 same-length-3 : tie.Need-same-length-3
 same-length-3 c = search needs

@@ -25,10 +25,8 @@ blocked-closing-requires c κs =
     let f = c .before in
     let s = f .before .before .before .before .before in
     let a = s .args in
-    let st = standing _ _ _ _ (s .pre .0) in (
-      ap (λ n. boundsGround (a .self) (length (a .nand .now)) n (a .slots)) (sym (st .chips .nor-size)) ∙ s .pre .0,
-      s .pre .1 .full (sym (f .is-full .ensures) ∙ c .if2 .taken),
-    )
+    let st = standing _ _ _ _ (s .pre .0) in
+    ap (λ n. boundsGround (a .self) (length (a .nand .now)) n (a .slots)) (sym (st .chips .nor-size)) ∙ s .pre .0
 
 returns-2 : tie.Need-returns-2
 returns-2 c =

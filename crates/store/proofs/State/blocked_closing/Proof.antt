@@ -1,52 +1,33 @@
--- `blocked_closing`: the header that a forced drop reads, then the pages of the close.
+-- `blocked_closing`: the pages of the close.
 use mathlib.Core.Path.{sym, ap, _∙_}
 use Rattle.bounds.specs.Grounds.{ground}
 use Rattle.store.proofs.Grounds.{standing}
-use Rattle.store.proofs.Blocked.{close-damaged, close-blocked}
+use Rattle.store.proofs.Blocked.{close-blocked}
 use native.Mathlib.Omega.{arith}
-use borrow.Author.Needs.{needs}
 use Rattle.store.proofs.State.blocked_closing.Statement.{statement}
 use Rattle.store.proofs.State.blocked_closing.Tie as tie
 
-closing-good-requires : tie.Need-closing-good-requires
-closing-good-requires c κs = search needs
-
-returns : tie.Need-returns
-returns c = λ nor load size. close-damaged _ nor _ _ load size _ (c .before .closing-good .ensures nor size) (c .if1 .taken)
-
 slot-of-requires : tie.Need-slot-of-requires
 slot-of-requires c κs =
-    let st = standing _ _ _ _ (c .before .before .before .pre .0) in
+    let st = standing _ _ _ _ (c .before .pre) in
     (omega (arith, st .serials .first, st .serials .rising), omega (arith, st .chips .least))
 
 pages-erased-requires : tie.Need-pages-erased-requires
 pages-erased-requires c κs =
-    let st = standing _ _ _ _ (c .before .before .before .before .pre .0) in
+    let st = standing _ _ _ _ (c .before .before .pre) in
     omega (arith, st .chips .nand-size, c .slot-of .ensures .1)
+
+returns : tie.Need-returns
+returns c =
+    λ nor load size.
+    ap (λ b. ground 11 b 0) (sym (c .if1 .taken)) ∙ close-blocked _ nor _ _ load size _ _ (c .before .before .slot-of .ensures .0)
+    (c .before .pages-erased .ensures)
 
 returns-2 : tie.Need-returns-2
 returns-2 c =
     λ nor load size.
-    ap (λ b. ground 11 b 0) (sym (c .if2 .taken)) ∙ close-blocked _ nor _ _ load size _
-    (c .before .before .before .before .closing-good .ensures nor size) _ _ (c .before .before .before .if1 .left)
-    (c .before .before .slot-of .ensures .0)
-    (c .before .pages-erased .ensures)
-
-returns-3 : tie.Need-returns-3
-returns-3 c =
-    λ nor load size.
-    ap (λ b. ground 11 b 0) (sym (c .if2 .left)) ∙ close-blocked _ nor _ _ load size _
-    (c .before .before .before .before .closing-good .ensures nor size) _ _ (c .before .before .before .if1 .left)
-    (c .before .before .slot-of .ensures .0)
+    ap (λ b. ground 11 b 0) (sym (c .if1 .left)) ∙ close-blocked _ nor _ _ load size _ _ (c .before .before .slot-of .ensures .0)
     (c .before .pages-erased .ensures)
 
 pub blocked-closing-spec : {M : Type 1} → statement M
-blocked-closing-spec =
-    tie.close
-    (tie.spec
-    closing-good-requires
-    returns
-    slot-of-requires
-    pages-erased-requires
-    returns-2
-    returns-3)
+blocked-closing-spec = tie.close (tie.spec slot-of-requires pages-erased-requires returns returns-2)

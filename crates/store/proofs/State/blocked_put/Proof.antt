@@ -1,4 +1,4 @@
--- `blocked_put`: a forced drop's header and the NOR bytes due for writing, then the page that the lift fills.
+-- `blocked_put`: the NOR bytes due for writing, then the page that the lift fills.
 use mathlib.Core.Path.{sym, ap, _∙_}
 use Rattle.grow.specs.Meaning.{meaning}
 use Rattle.bounds.specs.Grounds.{ground}
@@ -8,61 +8,54 @@ use native.Mathlib.Omega.{arith}
 use Rattle.store.proofs.State.blocked_put.Statement.{statement}
 use Rattle.store.proofs.State.blocked_put.Tie as tie
 
-drop-good-requires : tie.Need-drop-good-requires
-drop-good-requires c κs =
-    let st = standing _ _ _ _ (c .before .before .pre .0 .0) in
-    (st .chips .nand-size, omega (arith, st .chips .least), st .serials .rising)
-
 is-clear-requires : tie.Need-is-clear-requires
 is-clear-requires c κs =
-    let s = c .before .before .before in
+    let s = c .before .before in
     let st = standing _ _ _ _ (s .pre .0 .0) in
     (st .chips .nor-size, st .counts .few, st .counts .lifts, s .pre .0 .1 .fits)
 
 returns : tie.Need-returns
 returns c =
-    let s = c .before .before .before .before .before in
+    let s = c .before .before .before .before in
     let a = s .args in
     λ load e.
-    put-damaged (a .nand .now) (a .nor .now) (a .self) (a .slots) load _ (s .pre .1 .0) (s .pre .1 .1) _ _
-    (c .before .before .drop-good .ensures) (c .before .is-clear .ensures load e)
-    (c .if1 .taken)
+    put-damaged (a .nand .now) (a .nor .now) (a .self) (a .slots) load _ (s .pre .1 .0) (s .pre .1 .1) _
+    (c .before .is-clear .ensures load e) (c .if1 .taken)
 
 slot-of-requires : tie.Need-slot-of-requires
 slot-of-requires c κs =
-    let st = standing _ _ _ _ (c .before .before .before .before .before .pre .0 .0) in
+    let st = standing _ _ _ _ (c .before .before .before .before .pre .0 .0) in
     (omega (arith, st .serials .first, st .serials .rising), omega (arith, st .chips .least))
 
 page-free-requires : tie.Need-page-free-requires
 page-free-requires c κs =
-    let st = standing _ _ _ _ (c .before .before .before .before .before .before .pre .0 .0) in
+    let st = standing _ _ _ _ (c .before .before .before .before .before .pre .0 .0) in
     (omega (arith, st .chips .nand-size, c .slot-of .ensures .1), st .counts .lifts)
 
 returns-2 : tie.Need-returns-2
 returns-2 c =
-    let s = c .before .before .before .before .before .before .before .before in
+    let s = c .before .before .before .before .before .before .before in
     let a = s .args in
     λ load e.
     ap (λ b. ground 11 b 0) (sym (c .if2 .taken))
-    ∙ put-unerased (a .nand .now) (a .nor .now) (a .self) (a .slots) load (meaning (a .p)) (s .pre .1 .0) (s .pre .1 .1) _ _
-    (c .before .before .before .before .before .drop-good .ensures) (c .before .before .before .before .is-clear .ensures load e)
-    _ _ (c .before .before .before .if1 .left) (c .before .before .slot-of .ensures .0) (c .before .page-free .ensures)
+    ∙ put-unerased (a .nand .now) (a .nor .now) (a .self) (a .slots) load (meaning (a .p)) (s .pre .1 .0) (s .pre .1 .1) _
+    (c .before .before .before .before .is-clear .ensures load e) _ _ (c .before .before .before .if1 .left)
+    (c .before .before .slot-of .ensures .0) (c .before .page-free .ensures)
 
 returns-3 : tie.Need-returns-3
 returns-3 c =
-    let s = c .before .before .before .before .before .before .before .before in
+    let s = c .before .before .before .before .before .before .before in
     let a = s .args in
     λ load e.
     ap (λ b. ground 11 b 0) (sym (c .if2 .left))
-    ∙ put-unerased (a .nand .now) (a .nor .now) (a .self) (a .slots) load (meaning (a .p)) (s .pre .1 .0) (s .pre .1 .1) _ _
-    (c .before .before .before .before .before .drop-good .ensures) (c .before .before .before .before .is-clear .ensures load e)
-    _ _ (c .before .before .before .if1 .left) (c .before .before .slot-of .ensures .0) (c .before .page-free .ensures)
+    ∙ put-unerased (a .nand .now) (a .nor .now) (a .self) (a .slots) load (meaning (a .p)) (s .pre .1 .0) (s .pre .1 .1) _
+    (c .before .before .before .before .is-clear .ensures load e) _ _ (c .before .before .before .if1 .left)
+    (c .before .before .slot-of .ensures .0) (c .before .page-free .ensures)
 
 pub blocked-put-spec : {M : Type 1} → statement M
 blocked-put-spec =
     tie.close
     (tie.spec
-    drop-good-requires
     is-clear-requires
     returns
     slot-of-requires

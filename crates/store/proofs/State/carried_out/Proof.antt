@@ -51,7 +51,7 @@ put-requires c κs =
         omega (arith, st .chips .least),
         t .first,
       ),
-      ((t .lifts, t .few, t .fits), (s .pre .1 .0, ap loadOk (toZ-ofZ w32 (a .load) (s .fits .load)) ∙ s .pre .1 .1)),
+      ((t .lifts, t .few, t .fits), ap loadOk (toZ-ofZ w32 (a .load) (s .fits .load)) ∙ s .pre .1),
     )
 
 same-length : tie.Need-same-length

@@ -19,7 +19,7 @@ closing-requires : tie.Need-closing-requires
 closing-requires c κs =
     let s = c .before .before .before in
     let st = standing _ _ _ _ (s .pre .0) in
-    (omega (arith, st .times .started (s .pre .1)), st .span .low-ok, st .span .high-ok)
+    (st .span .low-ok, st .span .high-ok)
 
 program-pages-requires : tie.Need-program-pages-requires
 unfolding closing

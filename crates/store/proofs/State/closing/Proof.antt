@@ -14,16 +14,13 @@ stored-requires c κs = search needs
 stored-requires-2 : tie.Need-stored-requires-2
 stored-requires-2 c κs = search needs
 
-sub-t7 : tie.Need-sub-t7
-sub-t7 c = search needs
-
 returns : tie.Need-returns
 returns c =
-    let l = c .before .before .before in
+    let l = c .before .before in
     let s = l .before .before .before .before .before .args .self in
-    let low = toZ-ofZ w32 (s .low) (record { sfits = l .before .struct-told .given .1 .1 .1 .1 .1 .1 .1 .1 .1 .1 .1 .0 .1 }) in
-    let high = toZ-ofZ w32 (s .high) (record { sfits = c .before .before .struct-told2 .given .1 .1 .1 .1 .1 .1 .1 .1 .1 .1 .1 .1 .0 .1 }) in
-    closing-made s _ _ (l .stored .ensures ∙ ap stored low) (c .before .stored2 .ensures ∙ ap stored high)
+    let low = toZ-ofZ w32 (s .low) (record { sfits = l .before .struct-told .given .1 .1 .1 .1 .1 .1 .1 .1 .1 .1 .0 .1 }) in
+    let high = toZ-ofZ w32 (s .high) (record { sfits = c .before .struct-told2 .given .1 .1 .1 .1 .1 .1 .1 .1 .1 .1 .1 .0 .1 }) in
+    closing-made s _ _ (l .stored .ensures ∙ ap stored low) (c .stored2 .ensures ∙ ap stored high)
 
 pub closing-spec : {M : Type 1} → statement M
-closing-spec = tie.close (tie.spec stored-requires stored-requires-2 sub-t7 returns)
+closing-spec = tie.close (tie.spec stored-requires stored-requires-2 returns)

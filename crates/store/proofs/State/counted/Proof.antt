@@ -20,28 +20,22 @@ high-after-requires c κs = search needs
 start-after-requires : tie.Need-start-after-requires
 start-after-requires c κs = search needs
 
-live-after-requires : tie.Need-live-after-requires
-live-after-requires c κs = search needs
-
-add-t14 : tie.Need-add-t14
-add-t14 c = search needs
-
-add-t15 : tie.Need-add-t15
-add-t15 c = search needs
+add-t13 : tie.Need-add-t13
+add-t13 c = search needs
 
 returns : tie.Need-returns
 returns c =
-    let s = c .before .before .before .before .before .before .before .before .before .before in
+    let s = c .before .before .before .before .before .before .before .before .before in
     let t = s .args .self in
-    let l = c .before .before .before .before .before .low-after in
-    let h = c .before .before .before .high-after in
+    let l = c .before .before .before .before .low-after in
+    let h = c .before .before .high-after in
     let load = toZ-ofZ w32 (s .args .load) (s .fits .load) in
-    let low = toZ-ofZ w32 (t .low) (record { sfits = c .before .before .before .before .before .before .struct-told .given .1 .1 .1 .1 .1 .1 .1 .1 .1 .1 .1 .0 .1 }) in
-    let high = toZ-ofZ w32 (t .high) (record { sfits = c .before .before .before .before .struct-told2 .given .1 .1 .1 .1 .1 .1 .1 .1 .1 .1 .1 .1 .0 .1 }) in
-    counted-made t (s .args .time) (s .args .load) _ _ _ _ _ _ _ _ (c .before .before .before .before .before .before .before .pushed .ensures ∙ ap (pushed (t .loads) (t .count)) load)
+    let low = toZ-ofZ w32 (t .low) (record { sfits = c .before .before .before .before .before .struct-told .given .1 .1 .1 .1 .1 .1 .1 .1 .1 .1 .0 .1 }) in
+    let high = toZ-ofZ w32 (t .high) (record { sfits = c .before .before .before .struct-told2 .given .1 .1 .1 .1 .1 .1 .1 .1 .1 .1 .1 .0 .1 }) in
+    counted-made t (s .args .time) (s .args .load) _ _ _ _ _ _ _ (c .before .before .before .before .before .before .pushed .ensures ∙ ap (pushed (t .loads) (t .count)) load)
     (toZ-ofZ w32 (l .result) (record { sfits = l .ok }) ∙ l .ensures ∙ ap₂ (lowWith (t .count)) low load)
     (toZ-ofZ w32 (h .result) (record { sfits = h .ok }) ∙ h .ensures ∙ ap₂ (highWith (t .count)) high load)
-    (c .before .before .start-after .ensures) (c .before .live-after .ensures)
+    (c .before .start-after .ensures)
 
 pub counted-spec : {M : Type 1} → statement M
 counted-spec =
@@ -51,7 +45,5 @@ counted-spec =
     low-after-requires
     high-after-requires
     start-after-requires
-    live-after-requires
-    add-t14
-    add-t15
+    add-t13
     returns)

@@ -1,7 +1,7 @@
 use mathlib.Core.Path.{_≡_, sym, _∙_}
 use lib.ListN.{length}
 -- `drop`: a refusal for each test, else the oldest closed segment is erased.
-use Rattle.store.proofs.Outcomes.{drop-bounds, drop-none, drop-damaged, drop-done}
+use Rattle.store.proofs.Outcomes.{drop-bounds, drop-none, drop-done}
 use Rattle.store.proofs.Grounds.{Standing, standing}
 use native.Mathlib.Omega.{arith}
 use borrow.Author.Needs.{needs}
@@ -31,52 +31,23 @@ returns-2 c =
     let a = n .before .before .before .before .args in
     drop-none (a .nand .now) (a .nor .now) _ _ _ (n .before .ground .ensures) (zero n) (c .if2 .taken)
 
-renewal-requires : tie.Need-renewal-requires
-renewal-requires c κs =
+dropped-requires : tie.Need-dropped-requires
+dropped-requires c κs =
     let st = stand (c .before .before .before) in
-    (st .chips .nand-size, omega (arith, st .chips .least), omega (arith, st .serials .rising, c .before .if2 .left))
+    (st .chips .nand-size, omega (arith, st .chips .least), st .serials .first, omega (arith, st .serials .rising, c .before .if2 .left))
 
 same-length : tie.Need-same-length
 same-length c = search needs
 
 returns-3 : tie.Need-returns-3
 returns-3 c =
-    let l = c .before .before .before in
-    let n = l .before .before in
-    let a = n .before .before .before .before .args in
-    drop-damaged (a .nand .now) (a .nor .now) _ _ _ (n .before .ground .ensures) (zero n) _ (c .before .renewal .ensures)
-    (l .if2 .left) (c .if3 .taken)
-
-dropped-requires : tie.Need-dropped-requires
-dropped-requires c κs =
-    let l = c .before .before .before .before in
-    let st = stand (l .before .before) in
-    (st .chips .nand-size, omega (arith, st .chips .least), st .serials .first, omega (arith, st .serials .rising, l .if2 .left))
-
-same-length-2 : tie.Need-same-length-2
-same-length-2 c = search needs
-
-returns-4 : tie.Need-returns-4
-returns-4 c =
     let d = c .before .before in
-    let e = d .before .before in
-    let l = e .before .before .before in
+    let l = d .before .before in
     let n = l .before .before in
     let a = n .before .before .before .before .args in
-    drop-done (a .nand .now) (a .nor .now) _ _ _ (n .before .ground .ensures) (zero n) _ (e .before .renewal .ensures)
-    (l .if2 .left) _ _ (e .if3 .left)
-    (d .dropped .ensures .0) (d .dropped .ensures .1)
+    drop-done (a .nand .now) (a .nor .now) _ _ _ (n .before .ground .ensures) (zero n) _ _ (l .if2 .left) (d .dropped .ensures .0)
+    (d .dropped .ensures .1)
 
 pub drop-spec : {M : Type 1} → statement M
 drop-spec =
-    tie.close
-    (tie.spec
-    ground-requires
-    returns
-    returns-2
-    renewal-requires
-    same-length
-    returns-3
-    dropped-requires
-    same-length-2
-    returns-4)
+    tie.close (tie.spec ground-requires returns returns-2 dropped-requires same-length returns-3)

@@ -76,7 +76,6 @@ returns-2 c =
       λ e. record {
         bounds = enters n .bounds;
         suits = p .ensures .1;
-        timely = lifts n .timely;
         load-ok = lifts n .load-ok;
         is = is;
       },

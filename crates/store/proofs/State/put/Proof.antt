@@ -22,7 +22,7 @@ indexed-requires c κs =
     let code = c .before .before .before .before .before .stored .ensures
     ∙ ap stored (toZ-ofZ w32 (s .args .load) (s .fits .load)) in
     let n = s .pre .1 .0 in
-    (s .pre .0 .1, n .1, n .0, n .2, omega (arith, within-limits (s .args .load) (s .pre .1 .1 .1) .low, code))
+    (s .pre .0 .1, n .1, n .0, n .2, omega (arith, within-limits (s .args .load) (s .pre .1 .1) .low, code))
 
 buckets-after-requires : tie.Need-buckets-after-requires
 buckets-after-requires c κs = search needs
