@@ -1,20 +1,24 @@
 //! Store and in-place implementation side by side on damaged chips, odd states and odd arguments.
+use crate::carried::{backward, backward_in_place, Carried, OldStore};
 use crate::gym::{Gym, Random};
 use crate::in_place::InPlace;
 use crate::lift::{Contender, Lift, RECORD_BYTES};
 use crate::proved::Proved;
-use plain::{plate_of, Ground, State, Window, LOAD_MAX, LOAD_MIN, SLOT_BYTES, STATE_BYTES, TIME_MAX};
+use plain::{plate_of, Ground, OldState, State, Window, LOAD_MAX, LOAD_MIN, SLOT_BYTES, TIME_MAX};
 
 const TRIALS: usize = 4_000;
+
+/// How often each number was answered, 0 first.
+type Seen = [usize; 15];
 
 fn number<T>(answer: Result<T, Ground>) -> u8 {
     answer.map_or_else(|ground| ground as u8, |_| 0)
 }
 
 /// How often each number was answered, over all trials; panics where the two differ.
-pub fn check() -> [usize; 13] {
+pub fn check() -> Seen {
     let mut random = Random(7);
-    let mut seen = [0; 13];
+    let mut seen = [0; 15];
     for slots in [2, 3, 5] {
         let mut lifts = Gym::new(slots).lifts(slots as usize * 400);
         let mut store = Proved::new(slots);
@@ -22,9 +26,10 @@ pub fn check() -> [usize; 13] {
         store.append_all(&lifts);
         for _ in 0..TRIALS {
             let mut poked = store.clone();
-            poke(&mut random, &mut poked);
+            poke(&mut random, &mut poked.state, &mut poked.nand, &mut poked.nor, &mut poked.slots);
             trial(&mut random, &poked, lifts[lifts.len() - 1].time, &mut seen);
         }
+        check_conversions(&mut random, slots, &mut seen);
     }
     for load in [LOAD_MIN - 1, LOAD_MIN, -500, 250, 251, 9_750, 9_751, LOAD_MAX, LOAD_MAX + 1] {
         let mut answer = [0; 8];
@@ -35,33 +40,72 @@ pub fn check() -> [usize; 13] {
 }
 
 /// Up to three bytes are changed, mostly in headers, trees and the state; now and then the serials, S or NOR's length.
-fn poke(random: &mut Random, store: &mut Proved) {
+fn poke(random: &mut Random, state: &mut [u8], nand: &mut [u8], nor: &mut Vec<u8>, named_slots: &mut u64) {
     match random.within(0, 31) {
-        0 => store.slots += 1,
-        1 => store.nor.truncate(6_000),
+        0 => *named_slots += 1,
+        1 => nor.truncate(6_000),
         2 => {
             let last = random.within(999_999_996, 999_999_999) as u32;
-            store.state[..4].copy_from_slice(&last.to_le_bytes());
-            store.state[4..8].copy_from_slice(&last.to_le_bytes());
+            state[..4].copy_from_slice(&last.to_le_bytes());
+            state[4..8].copy_from_slice(&last.to_le_bytes());
         }
         _ => {}
     }
-    let slots = store.nand.len() / SLOT_BYTES;
+    let slots = nand.len() / SLOT_BYTES;
     for _ in 0..random.within(0, 3) {
         let value = [0, 1, 127, 255, random.next() as u8][random.within(0, 4) as usize];
         let slot = random.within(0, slots as i64 - 1) as usize * SLOT_BYTES;
         match random.within(0, 5) {
-            0 => store.state[random.within(0, STATE_BYTES as i64 - 1) as usize] = value,
-            1 => store.state[random.within(0, 74) as usize] = value,
-            2 => store.nor[random.within(0, 5_300) as usize] = value,
-            3 => store.nand[slot + 31 * 512 + random.within(0, 95) as usize] = value,
-            4 => store.nand[slot + random.within(20 * 512, 31 * 512 - 1) as usize] = value,
-            _ => store.nand[slot + random.within(0, SLOT_BYTES as i64 - 1) as usize] = value,
+            0 => state[random.within(0, state.len() as i64 - 1) as usize] = value,
+            1 => state[random.within(0, 74) as usize] = value,
+            2 => nor[random.within(0, 5_300) as usize] = value,
+            3 => nand[slot + 31 * 512 + random.within(0, 95) as usize] = value,
+            4 => nand[slot + random.within(20 * 512, 31 * 512 - 1) as usize] = value,
+            _ => nand[slot + random.within(0, SLOT_BYTES as i64 - 1) as usize] = value,
         }
     }
 }
 
-fn trial(random: &mut Random, store: &Proved, last: u64, seen: &mut [usize; 13]) {
+/// Now and then the byte that tells a header's form is changed.
+fn poke_form(random: &mut Random, nand: &mut [u8]) {
+    let slots = (nand.len() / SLOT_BYTES) as i64;
+    if random.within(0, 15) == 0 {
+        nand[random.within(0, slots - 1) as usize * SLOT_BYTES + 31 * 512 + 10] = random.within(0, 2) as u8;
+    }
+}
+
+/// Damaged stores of both forms carried over by the store and by (a).
+fn check_conversions(random: &mut Random, slots: u64, seen: &mut Seen) {
+    let base = Carried::filled(slots);
+    base.check();
+    let (mut to_new, mut to_old) = (Proved::new(slots), OldStore::room_for(&base.new));
+    let (mut plain_new, mut plain_old) = (to_new.clone(), to_old.clone());
+    for _ in 0..TRIALS {
+        let Carried { mut new, mut old } = Carried { new: base.new.clone(), old: base.old.clone() };
+        poke(random, &mut new.state, &mut new.nand, &mut new.nor, &mut new.slots);
+        poke(random, &mut old.state, &mut old.nand, &mut old.nor, &mut old.slots);
+        poke_form(random, &mut new.nand);
+        poke_form(random, &mut old.nand);
+        let number_back = backward(&new, &mut to_old);
+        let back = backward_in_place(&new, &State::from_bytes(&new.state), &mut plain_old);
+        let number_forward = old.forward(&mut to_new);
+        let forward = old.forward_in_place(&OldState::from_bytes(&old.state), &mut plain_new);
+        if let Ok(state) = &back {
+            plain_old.state = state.to_bytes();
+        }
+        if let Ok(state) = &forward {
+            plain_new.state = state.to_bytes();
+        }
+        assert_eq!([number_back, number_forward], [number(back), number(forward)], "numbers differ");
+        assert!(to_old.state == plain_old.state && to_new.state == plain_new.state, "states differ");
+        assert!(to_old.nand == plain_old.nand && to_new.nand == plain_new.nand, "NAND differs");
+        assert!(to_old.nor == plain_old.nor && to_new.nor == plain_new.nor, "NOR differs");
+        seen[usize::from(number_back)] += 1;
+        seen[usize::from(number_forward)] += 1;
+    }
+}
+
+fn trial(random: &mut Random, store: &Proved, last: u64, seen: &mut Seen) {
     let state = State::from_bytes(&store.state);
     let plain = InPlace { state, nand: store.nand.clone(), nor: store.nor.clone(), slots: store.slots };
     let time = [last, last, last + 5, last - 1, TIME_MAX, TIME_MAX + 1][random.within(0, 5) as usize];
@@ -91,7 +135,7 @@ fn same_bytes(store: &Proved, plain: &InPlace) {
     assert!(store.nand == plain.nand && store.nor == plain.nor, "chips differ");
 }
 
-fn same_answers(random: &mut Random, store: &Proved, plain: &InPlace, last: u64, seen: &mut [usize; 13]) {
+fn same_answers(random: &mut Random, store: &Proved, plain: &InPlace, last: u64, seen: &mut Seen) {
     let mut time = || [0, last - last / 3, last, TIME_MAX][random.within(0, 3) as usize];
     let (t1, t2) = (time(), time());
     let mut load = || [LOAD_MIN, 0, 2_480, 2_500, LOAD_MAX][random.within(0, 4) as usize];

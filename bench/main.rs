@@ -1,5 +1,6 @@
 //! The store against an in-place implementation, SQLite and a plain array, on the same lifts and questions.
 mod agree;
+mod carried;
 mod clock;
 mod field;
 mod gym;
@@ -14,12 +15,14 @@ mod scan;
 mod sqlite;
 mod stack;
 
+use carried::{backward, Carried, OldStore};
 use field::Field;
-use measure::{append_ratio, appends, searches, tallies, Line};
+use measure::{append_ratio, appends, conversions, searches, tallies, Line};
 use proved::Proved;
 use questions::{everything, Questions};
 
 const SIZES: [u64; 3] = [2, 64, 4_096];
+const CONVERTED_SIZES: [u64; 2] = [64, 4_096];
 
 fn measured(slots: u64) -> (Field, Vec<Line>) {
     let mut field = Field::filled(slots);
@@ -61,6 +64,8 @@ fn depths() -> Vec<(&'static str, usize)> {
     let old: &Proved = &field.proved;
     let mut closing = old.clone();
     let mut dropping = old.clone();
+    let carried = Carried::filled(2);
+    let (mut to_new, mut to_old) = (carried.new.clone(), OldStore::room_for(&carried.new));
     vec![
         ("format", stack::depth(|| assert_eq!(store.format(), 0))),
         ("append, closing and dropping among 700", append),
@@ -69,6 +74,8 @@ fn depths() -> Vec<(&'static str, usize)> {
         ("search", stack::depth(|| assert_eq!(old.find(&window, &mut rows, &mut answer), 0))),
         ("tally", stack::depth(|| assert_eq!(old.by_plate(window.t1, window.t2, &mut counts), 0))),
         ("plate", stack::depth(|| assert_eq!(Proved::plate(2_500, &mut answer), 0))),
+        ("forward", stack::depth(|| assert_eq!(carried.old.forward(&mut to_new), 0))),
+        ("backward", stack::depth(|| assert_eq!(backward(&carried.new, &mut to_old), 0))),
     ]
 }
 
@@ -79,10 +86,13 @@ fn main() {
     println!("Store and (a) give the same numbers, bytes and rows on damaged chips, odd states and odd arguments;");
     println!("answers by number, 0 first: {seen:?}.");
     let [(mut small, first), (_, second), (mut large, third)] = SIZES.map(measured);
-    let lines: Vec<Line> = first.into_iter().chain(second).chain(third).collect();
+    let carried = CONVERTED_SIZES.map(|slots| conversions(slots, report::CONVERSIONS));
+    let lines: Vec<Line> = first.into_iter().chain(second).chain(third).chain(carried.into_iter().flatten()).collect();
     println!("All contenders find the same rows and counts.\n");
     println!("Nanoseconds of processor time a call: the median round (the smallest to the largest).");
-    println!("Lifts: found or counted by a call, on average. Ratios: the median of the rounds' ratios.\n");
+    println!(
+        "Lifts: found, counted or carried over by a call, on average. Ratios: the median of the rounds' ratios.\n"
+    );
     report::table(&lines);
     let depths = depths();
     println!();

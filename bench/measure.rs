@@ -1,8 +1,10 @@
 //! Timed rounds: in each, every contender makes the same calls, one after the other.
+use crate::carried::{backward, backward_in_place, Carried, OldStore};
 use crate::clock;
 use crate::field::Field;
 use crate::lift::{Contender, Lift};
-use plain::Window;
+use crate::proved::Proved;
+use plain::{OldState, State, Window};
 use std::time::{Duration, Instant};
 
 const ROUNDS_LEAST: usize = 7;
@@ -32,7 +34,7 @@ pub fn ratio(above: &Rounds, below: &Rounds) -> Option<f64> {
 pub struct Line {
     pub slots: u64,
     pub call: &'static str,
-    /// Lifts found or counted by a call, on average.
+    /// Lifts found, counted or carried over by a call, on average.
     pub found: f64,
     pub rounds: [Rounds; 4],
 }
@@ -93,6 +95,52 @@ pub fn tallies(field: &mut Field, call: &'static str, windows: &[Window]) -> Lin
     let found = field.check_tallies(windows);
     let rounds = repeated(field, windows, |contender, _| contender.tally_all(windows));
     Line { slots: field.slots, call, found: found as f64 / windows.len() as f64, rounds }
+}
+
+/// Forward and backward of a filled store, by the store and by (a).
+pub fn conversions(slots: u64, calls: [&'static str; 2]) -> [Line; 2] {
+    let carried = Carried::filled(slots);
+    carried.check();
+    let Carried { mut new, old } = carried;
+    let found = new.retained() as f64;
+    let (state, old_state) = (State::from_bytes(&new.state), OldState::from_bytes(&old.state));
+    let mut to_new = Proved::new(slots);
+    let forward = in_turns(|by| match by {
+        Side::Store => assert_eq!(old.forward(&mut to_new), 0),
+        Side::InPlace => drop(std::hint::black_box(old.forward_in_place(&old_state, &mut to_new).expect("a way"))),
+    });
+    let mut to_old = OldStore::room_for(&new);
+    let backward = in_turns(|by| match by {
+        Side::Store => assert_eq!(backward(&new, &mut to_old), 0),
+        Side::InPlace => drop(std::hint::black_box(backward_in_place(&new, &state, &mut to_old).expect("a way"))),
+    });
+    let [forward_call, backward_call] = calls;
+    [
+        Line { slots, call: forward_call, found, rounds: forward },
+        Line { slots, call: backward_call, found, rounds: backward },
+    ]
+}
+
+/// The two contenders that keep the store's bytes.
+#[derive(Clone, Copy)]
+enum Side {
+    Store,
+    InPlace,
+}
+
+/// Rounds of one call by the store and by (a), now the one first and now the other.
+fn in_turns(mut run: impl FnMut(Side)) -> [Rounds; 4] {
+    let sides = [Side::Store, Side::InPlace];
+    let repeats = sides.map(|side| (ROUND_LEAST / ns_per_call(1, || run(side)).max(1.0)) as usize + 1);
+    let start = Instant::now();
+    let wanted = |n| n < ROUNDS_LEAST || (n < ROUNDS_MOST && start.elapsed() < TIME_FOR_ROUNDS);
+    rounds(wanted, |first| {
+        let mut ns = [None; 4];
+        for i in (0..2).map(|i| (first + i) % 2) {
+            ns[i] = Some(ns_per_call(repeats[i], || (0..repeats[i]).for_each(|_| run(sides[i]))));
+        }
+        ns
+    })
 }
 
 fn one_round(

@@ -9,6 +9,7 @@ pub const WHOLE_LOG: &str = "search, whole log";
 pub const ABSENT: &str = "search, absent load";
 pub const TALLY_DAY: &str = "tally, any day";
 pub const TALLY_ALL: &str = "tally, whole log";
+pub const CONVERSIONS: [&str; 2] = ["forward", "backward"];
 
 const STACK_MOST: usize = 65_536;
 

@@ -1,6 +1,9 @@
 //! The store's C interface, called with areas that have margins.
+use model::bytes::Expectation;
 use script::areas::Areas;
-use script::calls::{Call, Outputs, Store, Window};
+use script::calls::{Call, Carry, Outputs, Store, Window};
+use script::command::Part;
+use script::form::Form;
 
 mod c {
     #[link(name = "store_abi", kind = "static")]
@@ -29,6 +32,16 @@ mod c {
             slots: u64, t1: u64, t2: u64, answer: *mut u8, answer_len: usize,
         ) -> u8;
         pub fn store_plate(load: i32, answer: *mut u8, answer_len: usize) -> u8;
+        pub fn store_forward(
+            old: *const u8, old_len: usize, nand: *const u8, nand_len: usize, nor: *const u8, nor_len: usize,
+            slots: u64, state: *mut u8, state_len: usize, to_nand: *mut u8, to_nand_len: usize, to_nor: *mut u8,
+            to_nor_len: usize,
+        ) -> u8;
+        pub fn store_backward(
+            state: *const u8, state_len: usize, nand: *const u8, nand_len: usize, nor: *const u8, nor_len: usize,
+            slots: u64, old: *mut u8, old_len: usize, to_nand: *mut u8, to_nand_len: usize, to_nor: *mut u8,
+            to_nor_len: usize,
+        ) -> u8;
     }
 }
 
@@ -65,11 +78,15 @@ impl Lent {
     }
 }
 
-/// The built library. NAND is lent as it is, since it may have 64 MB.
+/// The built library. NAND is lent as it is, since it may have 64 MB. No call of the library runs a store of form 0: such
+/// calls are answered by the model.
 pub struct Library;
 
 impl Store for Library {
-    fn answer(&mut self, call: &Call, areas: &mut Areas, outputs: &mut Outputs) -> u8 {
+    fn answer(&mut self, form: Form, call: &Call, areas: &mut Areas, outputs: &mut Outputs) -> u8 {
+        if form == Form::Old {
+            return Expectation.answer(form, call, areas, outputs);
+        }
         let mut state = Lent::new(&areas.state);
         let mut nor = Lent::new(&areas.nor);
         let mut rows = Lent::new(&outputs.rows);
@@ -81,10 +98,66 @@ impl Store for Library {
             rows.hand_back(&mut outputs.rows),
             values.hand_back(&mut outputs.values),
         ];
-        if whole.contains(&false) {
-            return WROTE_OUTSIDE;
-        }
-        number
+        number_if(whole, number)
+    }
+
+    fn carry(&mut self, carry: &Carry, first: &mut Areas, second: &mut Areas) -> u8 {
+        let (from, into) = (Part::State(carry.into.other()), Part::State(carry.into));
+        let [mut state, mut to_state] = [first.part(from), second.part(into)].map(Lent::new);
+        let [mut nor, mut to_nor] = [&first.nor, &second.nor].map(|nor| Lent::new(nor));
+        let one = LentStore { state: state.area(), nand: &mut first.nand, nor: nor.area() };
+        let other = LentStore { state: to_state.area(), nand: &mut second.nand, nor: to_nor.area() };
+        let number = enter_carry(carry.into, carry.slots, one, other);
+        let whole = [
+            state.hand_back(first.part_mut(from)),
+            nor.hand_back(&mut first.nor),
+            to_state.hand_back(second.part_mut(into)),
+            to_nor.hand_back(&mut second.nor),
+        ];
+        number_if(whole, number)
+    }
+}
+
+fn number_if(margins_whole: [bool; 4], number: u8) -> u8 {
+    if margins_whole.contains(&false) {
+        return WROTE_OUTSIDE;
+    }
+    number
+}
+
+/// The areas of one of the two stores of a conversion, of whatever lengths.
+pub struct LentStore<'a> {
+    pub state: &'a mut [u8],
+    pub nand: &'a mut [u8],
+    pub nor: &'a mut [u8],
+}
+
+/// Has the library carry one store into another.
+pub fn enter_carry(into: Form, slots: u64, first: LentStore, second: LentStore) -> u8 {
+    let LentStore { state, nand, nor } = first;
+    let LentStore { state: to_state, nand: to_nand, nor: to_nor } = second;
+    let call = match into {
+        Form::New => c::store_forward,
+        Form::Old => c::store_backward,
+    };
+    // Sound if the library keeps to the areas whose lengths it is told, which is what is under test. The first store's
+    // pointers come from areas that may be changed, so that a write there shows as a difference.
+    unsafe {
+        call(
+            state.as_mut_ptr(),
+            state.len(),
+            nand.as_mut_ptr(),
+            nand.len(),
+            nor.as_mut_ptr(),
+            nor.len(),
+            slots,
+            to_state.as_mut_ptr(),
+            to_state.len(),
+            to_nand.as_mut_ptr(),
+            to_nand.len(),
+            to_nor.as_mut_ptr(),
+            to_nor.len(),
+        )
     }
 }
 

@@ -1,12 +1,12 @@
 //! The header page of a closed segment: read with its damage test, and made for a close.
 use crate::bloom::{fragment_of, sections_of};
 use crate::bytes::{page, put, slot, u16_at, u32_at, u64_at};
+use crate::form::Form;
 use crate::state::{Pointer, State, POINTER_BYTES};
 use crate::{stored, Ground, BUCKETS_MAX, CODE_MAX, HEADER_PAGE, LIFTS_MAX, PAGE_BYTES, TIME_MAX};
 
-const FORM_AT: usize = 10;
-const FORM: u8 = 1;
-const POINTERS_AT: usize = 40;
+pub const FORM_AT: usize = 10;
+pub const POINTERS_AT: usize = 40;
 
 pub struct Header {
     pub serial: u32,
@@ -22,6 +22,12 @@ impl Header {
     /// The header of a slot without damage, its serial below `before`.
     pub fn load(nand: &[u8], number: usize, slots: u64, before: u32) -> Result<Header, Ground> {
         let h = page(slot(nand, number), HEADER_PAGE);
+        Header::read(h, Form::New, slots).filter(|header| header.serial < before).ok_or(Ground::Damage)
+    }
+
+    /// The header of a page, unless it is damaged or of another form.
+    #[inline(always)]
+    pub fn read(h: &[u8; PAGE_BYTES], form: Form, slots: u64) -> Option<Header> {
         let header = Header {
             serial: u32_at(h, 0),
             count: u16_at(h, 4),
@@ -29,7 +35,7 @@ impl Header {
             start: u64_at(h, 16),
             low: u32_at(h, 32),
             high: u32_at(h, 36),
-            next: core::array::from_fn(|i| Pointer::read(h, POINTERS_AT + POINTER_BYTES * i)),
+            next: core::array::from_fn(|i| Pointer::read(h, POINTERS_AT + form.pointer_bytes() * i, form)),
         };
         let (sections, fragment, end) = (usize::from(h[7]), usize::from(h[8]), u64_at(h, 24));
         let counts = (1..=LIFTS_MAX).contains(&header.count)
@@ -42,11 +48,7 @@ impl Header {
             && header.low <= header.high
             && header.high <= CODE_MAX;
         let pointers = header.next.iter().all(|p| p.fits(slots) && p.time <= TIME_MAX);
-        if h[FORM_AT] == FORM && counts && span && pointers && header.serial < before {
-            Ok(header)
-        } else {
-            Err(Ground::Damage)
-        }
+        (h[FORM_AT] == form.byte_ten() && counts && span && pointers).then_some(header)
     }
 }
 
@@ -66,14 +68,14 @@ pub fn image(s: &State) -> [u8; PAGE_BYTES] {
     h[7] = sections as u8;
     h[8] = fragment_of(sections) as u8;
     h[9] = level as u8;
-    h[FORM_AT] = FORM;
+    h[FORM_AT] = Form::New.byte_ten();
     put(&mut h, 16, s.start.to_le_bytes());
     put(&mut h, 24, s.next.to_le_bytes());
     put(&mut h, 32, stored(s.low).to_le_bytes());
     put(&mut h, 36, stored(s.high).to_le_bytes());
     for (i, &head) in s.heads.iter().enumerate() {
         let pointer = if i < level { head } else { Pointer::NONE };
-        pointer.write(&mut h, POINTERS_AT + POINTER_BYTES * i);
+        pointer.write(&mut h, POINTERS_AT + POINTER_BYTES * i, Form::New);
     }
     h
 }

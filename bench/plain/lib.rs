@@ -1,12 +1,14 @@
 //! The rules of document 01, in form 1 of W-202, in place and without proofs: the same chips and bytes, the state a struct that the
-//! calls change.
+//! calls change; and W-203's conversions.
 #![no_std]
 #![forbid(unsafe_code)]
 
 mod append;
 mod bloom;
 mod bytes;
+mod carry;
 mod close;
+mod form;
 mod header;
 mod matches;
 mod query;
@@ -14,10 +16,11 @@ mod split;
 mod state;
 mod tree;
 
+pub use form::{OldState, OLD_STATE_BYTES};
 pub use query::{plate_of, Window};
 pub use state::{Pointer, State, STATE_BYTES};
 
-/// The twelve grounds, numbered in checking order.
+/// The grounds by their numbers.
 #[repr(u8)]
 #[derive(Clone, Copy, Debug, PartialEq, Eq)]
 pub enum Ground {
@@ -33,6 +36,8 @@ pub enum Ground {
     Damage,
     PageNotErased,
     AreaTooSmall,
+    OtherForm,
+    NoWayBack,
 }
 
 pub const TIME_MAX: u64 = 999_999_999_999_999;

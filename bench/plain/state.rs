@@ -1,9 +1,10 @@
 //! The state: its fields, its 783 bytes, its bounds (ground 3), format and drop.
 use crate::bytes::{i32_at, put, slot_mut, slot_of, u16_at, u32_at, u64_at};
+use crate::form::{Form, OldState};
 use crate::{load_ok, Ground, BUCKETS_MAX, LIFTS_MAX, NOR_BYTES, PAGE_BYTES, SLOT_BYTES, TIME_MAX};
 
 pub const STATE_BYTES: usize = 783;
-pub const POINTER_BYTES: usize = 14;
+pub const POINTER_BYTES: usize = Form::New.pointer_bytes();
 const HEADS_AT: usize = 19;
 const LOADS_AT: usize = 75;
 const PAGE_AT: usize = 127;
@@ -24,22 +25,16 @@ pub struct Pointer {
 impl Pointer {
     pub const NONE: Pointer = Pointer { slot: 65_535, serial: 0, time: 0 };
 
+    pub fn is_none(self) -> bool {
+        self.slot == Self::NONE.slot
+    }
+
     pub fn is_live(self, oldest: u32) -> bool {
-        self.slot != Self::NONE.slot && self.serial >= oldest
+        !self.is_none() && self.serial >= oldest
     }
 
     pub fn fits(self, slots: u64) -> bool {
-        self.slot == Self::NONE.slot || u64::from(self.slot) < slots
-    }
-
-    pub fn read(area: &[u8], at: usize) -> Pointer {
-        Pointer { slot: u16_at(area, at), serial: u32_at(area, at + 2), time: u64_at(area, at + 6) }
-    }
-
-    pub fn write(self, area: &mut [u8], at: usize) {
-        put(area, at, self.slot.to_le_bytes());
-        put(area, at + 2, self.serial.to_le_bytes());
-        put(area, at + 6, self.time.to_le_bytes());
+        self.is_none() || u64::from(self.slot) < slots
     }
 }
 
@@ -82,7 +77,7 @@ impl State {
             count: u16_at(area, 8),
             buckets: area[10],
             next: u64_at(area, 11),
-            heads: core::array::from_fn(|i| Pointer::read(area, HEADS_AT + POINTER_BYTES * i)),
+            heads: core::array::from_fn(|i| Pointer::read(area, HEADS_AT + POINTER_BYTES * i, Form::New)),
             loads: core::array::from_fn(|i| i32_at(area, LOADS_AT + 4 * i)),
             page: area[PAGE_AT..BLOOM_AT].try_into().unwrap(),
             bloom: area[BLOOM_AT..START_AT].try_into().unwrap(),
@@ -100,7 +95,7 @@ impl State {
         area[10] = self.buckets;
         put(&mut area, 11, self.next.to_le_bytes());
         for (i, head) in self.heads.iter().enumerate() {
-            head.write(&mut area, HEADS_AT + POINTER_BYTES * i);
+            head.write(&mut area, HEADS_AT + POINTER_BYTES * i, Form::New);
         }
         for (i, load) in self.loads.iter().enumerate() {
             put(&mut area, LOADS_AT + 4 * i, load.to_le_bytes());
@@ -113,7 +108,16 @@ impl State {
         area
     }
 
-    fn within_bounds(&self, slots: u64) -> bool {
+    pub(crate) fn within_bounds(&self, slots: u64) -> bool {
+        let empty = self.count == 0;
+        self.others_within_bounds(slots)
+            && self.next <= TIME_MAX
+            && (self.next == 0 || self.open != 1 || !empty)
+            && (empty || self.start <= self.next)
+    }
+
+    /// All bounds but those of next time.
+    fn others_within_bounds(&self, slots: u64) -> bool {
         let empty = self.count == 0;
         let serials = 1 <= self.oldest && self.oldest <= self.open && self.open <= SERIAL_MAX;
         if !serials {
@@ -125,10 +129,8 @@ impl State {
             && self.buckets <= BUCKETS_MAX
             && (self.buckets == 0) == empty
             && (empty || self.open != SERIAL_MAX)
-            && self.next <= TIME_MAX
             && self.start <= TIME_MAX + 1
-            && (self.next == 0 || self.open != 1 || !empty)
-            && (empty || (self.start <= self.next && self.low <= self.high))
+            && (empty || self.low <= self.high)
             && self.loads.iter().all(|&load| load_ok(load))
             && load_ok(self.low)
             && load_ok(self.high)
@@ -169,13 +171,38 @@ impl State {
     }
 }
 
-/// Grounds 1 and 2.
-fn check_chips(nand: &[u8], nor: &[u8], slots: u64) -> Result<(), Ground> {
+impl OldState {
+    pub(crate) fn within_bounds(&self, slots: u64) -> bool {
+        let s = &self.state;
+        let empty = s.count == 0;
+        s.others_within_bounds(slots)
+            && s.next <= TIME_MAX + 1
+            && self.live <= TIME_MAX + 1
+            && (s.next == 0) == (s.open == 1 && empty)
+            && (empty || s.start < s.next)
+    }
+}
+
+/// Ground 1.
+pub(crate) fn check_nand(nand: &[u8], slots: u64) -> Result<(), Ground> {
     if !(2..=4096).contains(&slots) || nand.len() != slots as usize * SLOT_BYTES {
         Err(Ground::NandSize)
-    } else if nor.len() != NOR_BYTES {
+    } else {
+        Ok(())
+    }
+}
+
+/// Ground 2.
+pub(crate) fn check_nor(nor: &[u8]) -> Result<(), Ground> {
+    if nor.len() != NOR_BYTES {
         Err(Ground::NorSize)
     } else {
         Ok(())
     }
+}
+
+/// Grounds 1 and 2.
+fn check_chips(nand: &[u8], nor: &[u8], slots: u64) -> Result<(), Ground> {
+    check_nand(nand, slots)?;
+    check_nor(nor)
 }

@@ -38,7 +38,7 @@ fn use_all_buckets(trial: &mut Trial, habits: &mut Habits) -> Step {
 }
 
 /// Appends until the open segment has `count` lifts, or would be closed for want of buckets.
-fn fill_open_segment(trial: &mut Trial, habits: &mut Habits, count: u64) -> Step {
+pub fn fill_open_segment(trial: &mut Trial, habits: &mut Habits, count: u64) -> Step {
     let serial = trial.field(Field::Open);
     append_while(trial, habits, |trial| trial.field(Field::Open) == serial && trial.field(Field::Count) < count)
 }

@@ -6,16 +6,17 @@ use crate::mids;
 use crate::random::Random;
 use crate::trial::{Trial, BUCKETS, BUCKET_BYTES, HEADER, NOR_BYTES, SECTIONS, TREE};
 use model::limits::LAST_TIME;
-use script::areas::{BLOOM_BUFFER, HEADS, LAST_LOADS, PAGE_BUFFER, PAGE_BYTES, POINTER_BYTES, SLOT_BYTES};
+use script::areas::{PAGE_BYTES, SLOT_BYTES};
 use script::calls::Call;
 use script::command::{Command, Field, Part};
+use script::form::Form;
 
 /// Offsets and widths in the header page, its form and its four pointers apart.
 const HEADER_FIELDS: [(usize, usize); 10] =
     [(0, 4), (4, 2), (6, 1), (7, 1), (8, 1), (9, 1), (16, 8), (24, 8), (32, 4), (36, 4)];
 /// The byte that tells the form, and where the pointers begin.
-const FORM: usize = 10;
-const POINTERS: usize = 40;
+pub const BYTE_TEN: usize = 10;
+pub const POINTERS: usize = 40;
 const BUCKET_FIELDS: [(usize, usize); 5] = [(0, 4), (4, 4), (8, 4), (12, 1), (13, 1)];
 /// Numbers that some bound or mark of document 01 stands at.
 const MARKS: [u64; 20] =
@@ -81,12 +82,12 @@ fn bucket_field(random: &mut Random) -> (usize, usize) {
     }
 }
 
-fn damage_header(trial: &mut Trial, header: usize) -> Step {
+pub fn damage_header(trial: &mut Trial, header: usize) -> Step {
     match trial.random.below(6) {
         0 | 1 => damage_pointer(trial, Part::Nand, header + POINTERS),
         2 => {
-            let form = trial.random.pick(&[0, 2, 255]);
-            trial.poke(Part::Nand, header + FORM, &[form])
+            let form = trial.random.pick(&[trial.form.other().byte_ten(), 2, 255]);
+            trial.poke(Part::Nand, header + BYTE_TEN, &[form])
         }
         _ => {
             let (field, width) = trial.random.pick(&HEADER_FIELDS);
@@ -96,12 +97,13 @@ fn damage_header(trial: &mut Trial, header: usize) -> Step {
 }
 
 /// One of four pointers, of a header or in the heads: its slot, its serial or its time.
-fn damage_pointer(trial: &mut Trial, part: Part, pointers: usize) -> Step {
-    let pointer = pointers + POINTER_BYTES * trial.random.index(4);
+pub fn damage_pointer(trial: &mut Trial, part: Part, pointers: usize) -> Step {
+    let pointer = pointers + trial.form.pointer_bytes() * trial.random.index(4);
     match trial.random.below(6) {
         0 => change_field(trial, part, pointer, 2),
         1 => change_field(trial, part, pointer, 1),
-        2 | 3 => change_field(trial, part, pointer + 6, 8),
+        2 | 3 => change_field(trial, part, pointer + 2 + trial.form.serial_bytes(), 8),
+        _ if trial.form == Form::Old => Ok(()),
         _ => odd_serial(trial, part, pointer + 2),
     }
 }
@@ -118,7 +120,7 @@ fn odd_serial(trial: &mut Trial, part: Part, offset: usize) -> Step {
     trial.poke(part, offset, &serial.to_le_bytes())
 }
 
-fn damage_once(trial: &mut Trial, slots: u64) -> Step {
+pub fn damage_once(trial: &mut Trial, slots: u64) -> Step {
     let buckets = trial.field(Field::Buckets) as usize;
     let random = &mut trial.random;
     let slot = random.index(slots as usize) * SLOT_BYTES;
@@ -139,7 +141,7 @@ fn damage_once(trial: &mut Trial, slots: u64) -> Step {
         9 => damage_section(trial, slot),
         10 => damage_page_due(trial, slots),
         11 => damage_buffers(trial),
-        12 => damage_pointer(trial, Part::State, HEADS),
+        12 => damage_pointer(trial, trial.state(), trial.form.heads()),
         13 => change_count(trial, slot + HEADER),
         14 => damage_entry_due(trial),
         15 => narrow_a_range(trial, open_bucket),
@@ -207,13 +209,13 @@ fn damage_page_due(trial: &mut Trial, slots: u64) -> Step {
 
 /// A record in the page buffer, a byte of the Bloom buffer, or one of the last loads.
 fn damage_buffers(trial: &mut Trial) -> Step {
-    let random = &mut trial.random;
+    let (form, random) = (trial.form, &mut trial.random);
     let (offset, width) = match random.below(4) {
-        0 | 1 => (PAGE_BUFFER + 32 * random.index(16) + 8, 4),
-        2 => (BLOOM_BUFFER + random.index(128), 1),
-        _ => (LAST_LOADS + 4 * random.index(13), 1),
+        0 | 1 => (form.page_buffer() + 32 * random.index(16) + 8, 4),
+        2 => (form.bloom_buffer() + random.index(128), 1),
+        _ => (form.last_loads() + 4 * random.index(13), 1),
     };
-    change_field(trial, Part::State, offset, width)
+    change_field(trial, Part::State(form), offset, width)
 }
 
 fn damage_anywhere(trial: &mut Trial) -> Step {

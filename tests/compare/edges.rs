@@ -3,9 +3,9 @@ use crate::habits::odd_slots;
 use crate::judge::Step;
 use crate::lengths;
 use crate::trial::{Trial, NOR_BYTES};
-use script::areas::{SLOT_BYTES, STATE_BYTES};
+use script::areas::SLOT_BYTES;
 use script::calls::{Call, Window};
-use script::command::{Command, Fill, Part};
+use script::command::{Command, Fill};
 
 pub fn rounds(trial: &mut Trial) -> Step {
     for _ in 0..30 {
@@ -23,7 +23,7 @@ pub fn rounds(trial: &mut Trial) -> Step {
     Ok(())
 }
 
-fn odd_chips(trial: &mut Trial, slots: u64) -> Step {
+pub fn odd_chips(trial: &mut Trial, slots: u64) -> Step {
     let random = &mut trial.random;
     let whole = slots as usize * SLOT_BYTES;
     let nand_bytes = random.pick(&[whole, whole, whole, whole - 1, whole + 1, 0, 1, SLOT_BYTES, whole + SLOT_BYTES]);
@@ -32,11 +32,11 @@ fn odd_chips(trial: &mut Trial, slots: u64) -> Step {
     trial.run(Command::Areas { nand_bytes, nor_bytes, fill })
 }
 
-fn any_state(trial: &mut Trial) -> Step {
-    for offset in 0..STATE_BYTES {
+pub fn any_state(trial: &mut Trial) -> Step {
+    for offset in 0..trial.form.state_bytes() {
         if trial.random.once_in(3) {
             let value = trial.random.bits() as u8;
-            trial.poke(Part::State, offset, &[value])?;
+            trial.poke(trial.state(), offset, &[value])?;
         }
     }
     Ok(())

@@ -1,18 +1,17 @@
 //! What was compared, counted, and which ground each call can meet.
 use model::paper::{Closed, Said};
-use script::calls::Call;
+use script::calls::{Call, Carry};
+use script::form::Form;
 
-const NUMBERS: usize = 13;
-
-/// How often each number was given.
-pub type Numbers = [u64; NUMBERS];
+/// How often each number was given, the last one being `N` - 1.
+pub type Numbers<const N: usize> = [u64; N];
 
 /// Prints a row for each name.
-pub fn print_numbers(names: &[&str], rows: &[Numbers]) {
+pub fn print_numbers<'a, const N: usize>(rows: impl Iterator<Item = (&'static str, &'a Numbers<N>)>) {
     print!("{:8}", "number");
-    (0..NUMBERS).for_each(|number| print!("{number:9}"));
+    (0..N).for_each(|number| print!("{number:9}"));
     println!();
-    for (name, counts) in names.iter().zip(rows) {
+    for (name, counts) in rows {
         print!("{name:8}");
         counts.iter().for_each(|count| print!("{count:9}"));
         println!();
@@ -44,8 +43,12 @@ impl Turns {
     }
 }
 
-/// The numbers of each call, in the order of `Call::NAMES`.
-const NUMBERS_OF_CALLS: [&[usize]; 7] = [
+/// Up to 14; 20 is counted apart, since no script has an area of a wrong length.
+const NUMBERS: usize = 15;
+const CALLS: usize = Call::NAMES.len() + Carry::NAMES.len();
+
+/// The numbers of each call, in the order of `Call::NAMES` and then of `Carry::NAMES`.
+const NUMBERS_OF_CALLS: [&[usize]; CALLS] = [
     &[0, 1, 2],
     &[0, 1, 2, 3, 4, 5, 7, 8, 10, 11],
     &[0, 1, 2, 3, 9, 11],
@@ -53,46 +56,64 @@ const NUMBERS_OF_CALLS: [&[usize]; 7] = [
     &[0, 1, 2, 3, 4, 5, 6, 10, 12],
     &[0, 1, 2, 3, 4, 6, 10],
     &[0, 5],
+    &[0, 1, 2, 3, 10, 13],
+    &[0, 1, 2, 3, 10, 13, 14],
 ];
 
 #[derive(Default)]
 pub struct Figures {
-    calls: [Numbers; 7],
+    calls: [Numbers<NUMBERS>; CALLS],
     by_paper_log: u64,
     pub rows: u64,
     turns: Turns,
     pub wrong_lengths: u64,
+    /// Calls on stores of form 0, which the model alone answers.
+    of_form_0: u64,
 }
 
 impl Figures {
-    pub fn count_call(&mut self, call: &Call, number: u8) {
-        if let Some(count) = self.calls[call.kind()].get_mut(usize::from(number)) {
+    pub fn count_call(&mut self, form: Form, call: &Call, number: u8) {
+        match form {
+            Form::Old => self.of_form_0 += 1,
+            Form::New => self.count(call.kind(), number),
+        }
+    }
+
+    pub fn count_carry(&mut self, carry: &Carry, number: u8) {
+        self.count(Call::NAMES.len() + carry.kind(), number);
+    }
+
+    fn count(&mut self, kind: usize, number: u8) {
+        if let Some(count) = self.calls[kind].get_mut(usize::from(number)) {
             *count += 1;
         }
     }
 
-    /// Counts what an accepted call does in the paper log.
-    pub fn count_said(&mut self, call: &Call, said: &Said) {
-        self.by_paper_log += 1;
-        self.turns.count(call, said);
+    /// Counts what an accepted call of the library does in the paper log.
+    pub fn count_said(&mut self, form: Form, call: &Call, said: &Said) {
+        if form == Form::New {
+            self.by_paper_log += 1;
+            self.turns.count(call, said);
+        }
     }
 
     pub fn total_calls(&self) -> u64 {
         self.calls.iter().flatten().sum()
     }
 
+    fn rows(&self) -> impl Iterator<Item = (&'static str, &Numbers<NUMBERS>)> {
+        Call::NAMES.into_iter().chain(Carry::NAMES).zip(&self.calls)
+    }
+
     /// Every pair of call and number that was not met.
     pub fn missing(&self) -> Vec<String> {
-        let pairs =
-            NUMBERS_OF_CALLS.iter().enumerate().flat_map(|(kind, numbers)| numbers.iter().map(move |n| (kind, *n)));
-        pairs
-            .filter(|(kind, number)| self.calls[*kind][*number] == 0)
-            .map(|(kind, number)| format!("{} {number}", Call::NAMES[kind]))
-            .collect()
+        let rows = self.rows().zip(NUMBERS_OF_CALLS);
+        let pairs = rows.flat_map(|((name, counts), numbers)| numbers.iter().map(move |n| (name, *n, counts[*n])));
+        pairs.filter(|(_, _, count)| *count == 0).map(|(name, number, _)| format!("{name} {number}")).collect()
     }
 
     pub fn print(&self) {
-        print_numbers(&Call::NAMES, &self.calls);
+        print_numbers(self.rows());
         println!(
             "calls {}, also held to the paper log {}, rows compared {}, calls with a wrong length {}",
             self.total_calls(),
@@ -100,6 +121,7 @@ impl Figures {
             self.rows,
             self.wrong_lengths
         );
+        println!("calls on stores of form 0, answered by the model, to be carried over {}", self.of_form_0);
         self.turns.print();
     }
 }

@@ -42,6 +42,11 @@ impl Habits {
         self.loads = Loads::Even { load: 0 };
     }
 
+    /// From now on each lift later than the one before.
+    pub fn let_times_rise(&mut self) {
+        self.times = Times::Dense;
+    }
+
     pub fn one_call(&mut self, trial: &mut Trial) -> Step {
         let random = &mut trial.random;
         if random.once_in(self.odd_in) {

@@ -1,20 +1,23 @@
 //! Gives every command to the store and to the model, and compares all that they leave.
 use crate::figures::Figures;
 use crate::page_rules;
-use abi::Library;
+use crate::reached::Reached;
+use abi::{LentStore, Library};
 use model::bytes::Expectation;
 use model::paper::{PaperLog, Said};
-use script::areas::{Areas, World};
-use script::calls::{Call, Outputs, Store};
-use script::command::Command;
+use script::areas::{Areas, World, STORES};
+use script::calls::{Call, Carry, Outputs, Store};
+use script::command::{Command, Part};
+use script::form::Form;
 use script::hash::copy_changed;
+use std::rc::Rc;
 
 /// What differs, in words.
 pub struct Difference(pub String);
 pub type Step = Result<(), Difference>;
 
-fn differ(call: &Call, what: String) -> Step {
-    Err(Difference(format!("{call}: {what}")))
+fn differ(command: &Command, what: String) -> Step {
+    Err(Difference(format!("{command}: {what}")))
 }
 
 /// The library with the areas it is lent.
@@ -24,13 +27,17 @@ struct Tested {
     nor_before: Vec<u8>,
 }
 
+/// Of each store, what is known while calls alone have changed it since a format.
+type AllReached = [Option<Reached>; STORES];
+
 pub struct Judge {
     /// None if a script is only to be written, not tried.
     tested: Option<Tested>,
     expected: World,
-    /// Only after a format, and only while calls alone have changed the areas.
-    log: Option<PaperLog>,
-    kept_log: Option<PaperLog>,
+    reached: AllReached,
+    kept: AllReached,
+    /// The number of the last call.
+    pub number: u8,
     pub figures: Figures,
 }
 
@@ -41,10 +48,17 @@ impl Judge {
     }
 
     pub fn of_model_alone() -> Judge {
-        Judge { tested: None, expected: World::empty(), log: None, kept_log: None, figures: Figures::default() }
+        Judge {
+            tested: None,
+            expected: World::empty(),
+            reached: AllReached::default(),
+            kept: AllReached::default(),
+            number: 0,
+            figures: Figures::default(),
+        }
     }
 
-    /// Forgets areas and log; keeps the figures.
+    /// Forgets areas and logs; keeps the figures.
     pub fn begin_anew(&mut self) {
         let fresh = if self.tested.is_some() { Judge::of_library() } else { Judge::of_model_alone() };
         let figures = std::mem::take(&mut self.figures);
@@ -55,31 +69,52 @@ impl Judge {
         &self.expected.areas
     }
 
+    pub fn selected(&self) -> usize {
+        self.expected.selected()
+    }
+
     /// Calls the library on the present chips with other areas of any length, past the script format.
     pub fn call_with(&mut self, call: &Call, state: &mut [u8], rows: &mut [u8], values: &mut [u8]) -> Option<u8> {
         let Areas { nand, nor, .. } = &mut self.tested.as_mut()?.world.areas;
         Some(abi::enter(call, state, nand, nor, rows, values))
     }
 
-    pub fn compare_areas(&self, call: &Call) -> Step {
+    /// Has the library carry the present store into these areas, with another state area of any length.
+    pub fn carry_with(&mut self, into: Form, slots: u64, state: &mut [u8], second: LentStore) -> Option<u8> {
+        let Areas { nand, nor, .. } = &mut self.tested.as_mut()?.world.areas;
+        Some(abi::enter_carry(into, slots, LentStore { state, nand, nor }, second))
+    }
+
+    pub fn compare_areas(&self, command: &Command) -> Step {
+        self.compare_store(command, self.expected.selected(), "")
+    }
+
+    fn compare_store(&self, command: &Command, store: usize, of: &str) -> Step {
         match &self.tested {
-            Some(tested) => compare_areas(call, &tested.world.areas, &self.expected.areas),
+            Some(tested) => compare_areas(command, of, tested.world.store(store), self.expected.store(store)),
             None => Ok(()),
         }
     }
 
-    pub fn log(&self) -> Option<&PaperLog> {
-        self.log.as_ref()
+    fn reached(&self) -> Option<&Reached> {
+        self.reached[self.expected.selected()].as_ref()
+    }
+
+    /// The log of the selected store, if it is one in that form.
+    pub fn log(&self, form: Form) -> Option<&PaperLog> {
+        self.reached().map(|reached| &reached.log).filter(|log| log.form() == form)
     }
 
     pub fn perform(&mut self, command: &Command) -> Step {
         match command {
-            Command::Call(call) => return self.call(call),
+            Command::Call(form, call) => return self.call(command, *form, call),
+            Command::Carry(carry) => return self.carry(command, carry),
             Command::Rows | Command::Dump { .. } | Command::Changed => return Ok(()),
-            Command::Snap => self.kept_log.clone_from(&self.log),
-            Command::Back => self.log.clone_from(&self.kept_log),
-            Command::Use(_) | Command::Areas { .. } | Command::Poke { .. } | Command::SetField { .. } => {
-                self.log = None
+            Command::Use(_) => {}
+            Command::Snap => self.kept.clone_from(&self.reached),
+            Command::Back => self.reached.clone_from(&self.kept),
+            Command::Areas { .. } | Command::Poke { .. } | Command::SetField { .. } => {
+                self.reached[self.expected.selected()] = None
             }
         }
         self.expected.apply(command);
@@ -89,83 +124,134 @@ impl Judge {
         Ok(())
     }
 
-    fn call(&mut self, call: &Call) -> Step {
+    fn call(&mut self, command: &Command, form: Form, call: &Call) -> Step {
         let mut expected_outputs = Outputs::untouched(call);
-        let expected_number = Expectation.answer(call, &mut self.expected.areas, &mut expected_outputs);
-        self.figures.count_call(call, expected_number);
+        let expected_number = Expectation.answer(form, call, &mut self.expected.areas, &mut expected_outputs);
+        self.number = expected_number;
+        self.figures.count_call(form, call, expected_number);
+        let is_reached = self.reached().is_some();
         if let Some(tested) = &mut self.tested {
-            if self.log.is_some() {
+            if is_reached {
                 copy_changed(&tested.world.areas.nand, &mut tested.nand_before);
                 copy_changed(&tested.world.areas.nor, &mut tested.nor_before);
             }
             let mut outputs = Outputs::untouched(call);
-            let number = Library.answer(call, &mut tested.world.areas, &mut outputs);
+            let number = Library.answer(form, call, &mut tested.world.areas, &mut outputs);
             if number != expected_number {
-                return differ(call, format!("number {number}, expected {expected_number}"));
+                return differ(command, format!("number {number}, expected {expected_number}"));
             }
-            compare_outputs(call, &outputs, &expected_outputs)?;
-            compare_areas(call, &tested.world.areas, &self.expected.areas)?;
+            compare_outputs(command, &outputs, &expected_outputs)?;
+            self.compare_areas(command)?;
         }
         if let (Call::Search { .. }, 0) = (call, expected_number) {
             self.figures.rows += expected_outputs.value(0);
         }
-        self.hold_to_log(call, expected_number, &expected_outputs)
+        self.hold_to_log(command, form, call, expected_number, &expected_outputs)
     }
 
     /// By now the store's answer is the expected one; the paper log has its own word on both.
-    fn hold_to_log(&mut self, call: &Call, number: u8, outputs: &Outputs) -> Step {
+    fn hold_to_log(&mut self, command: &Command, form: Form, call: &Call, number: u8, outputs: &Outputs) -> Step {
+        let store = self.expected.selected();
         if let (Call::Format { slots }, 0) = (call, number) {
-            self.log = Some(PaperLog::formatted(*slots));
+            self.reached[store] = Some(Reached::from_format(form, *slots));
             return Ok(());
         }
-        let Some(log) = &mut self.log else { return Ok(()) };
-        let (log_number, said) = match log.call(call) {
+        let Some(reached) = &mut self.reached[store] else { return Ok(()) };
+        if !matches!(call, Call::Plate { .. }) && reached.log.form() != form {
+            // A call of the other form, which the log has no word on.
+            self.reached[store] = None;
+            return Ok(());
+        }
+        let (log_number, said) = match reached.call(call) {
             Ok(said) => (0, said),
             Err(number) => (number, Said::default()),
         };
         if number != log_number {
-            return differ(call, format!("number {number}, in the paper log {log_number}"));
+            return differ(command, format!("number {number}, in the paper log {log_number}"));
         }
         if number == 0 {
-            compare_with_log(call, outputs, &said)?;
+            compare_with_log(command, outputs, &said)?;
         }
-        self.figures.count_said(call, &said);
+        self.figures.count_said(form, call, &said);
         let Some(tested) = &self.tested else { return Ok(()) };
         let rules_kept = page_rules::check(
             [&tested.nand_before, &tested.world.areas.nand],
             [&tested.nor_before, &tested.world.areas.nor],
             &said,
         );
-        rules_kept.or_else(|broken| differ(call, broken))
+        rules_kept.or_else(|broken| differ(command, broken))
+    }
+
+    /// The second store is compared, and the first, which no call changes.
+    fn carry(&mut self, command: &Command, carry: &Carry) -> Step {
+        let first = self.expected.selected();
+        let first_before = self.reached().map(|_| Rc::new(self.expected.areas.clone()));
+        let number = self.expected.carry(carry, &mut Expectation);
+        self.number = number;
+        self.figures.count_carry(carry, number);
+        if let Some(tested) = &mut self.tested {
+            let given = tested.world.carry(carry, &mut Library);
+            if given != number {
+                return differ(command, format!("number {given}, expected {number}"));
+            }
+            self.compare_store(command, first, "first store's ")?;
+            self.compare_store(command, carry.second, "second store's ")?;
+        }
+        let second = self.expected.store(carry.second);
+        let reached = match (&self.reached[first], first_before) {
+            (Some(reached), Some(before)) if reached.log.form() == carry.into.other() => {
+                let held = reached.carried(carry, number, before, second);
+                Some(held.map_err(|broken| Difference(format!("{command}: {broken}")))?)
+            }
+            _ => None,
+        };
+        if number == 0 {
+            self.reached[carry.second] = reached;
+        }
+        Ok(())
     }
 }
 
-fn compare_with_log(call: &Call, outputs: &Outputs, said: &Said) -> Step {
+fn compare_with_log(command: &Command, outputs: &Outputs, said: &Said) -> Step {
     let values: Vec<u8> = said.values.iter().flat_map(|value| value.to_le_bytes()).collect();
     if outputs.values != values {
-        return differ(call, format!("the paper log answers {:?}", said.values));
+        return differ(command, format!("the paper log answers {:?}", said.values));
     }
     if outputs.rows[..said.rows.len()] != said.rows[..] {
-        return differ(call, "other rows than in the paper log".into());
+        return differ(command, "other rows than in the paper log".into());
     }
     Ok(())
 }
 
-fn compare_outputs(call: &Call, got: &Outputs, expected: &Outputs) -> Step {
-    compare_bytes(call, "answer area", &got.values, &expected.values)?;
-    compare_bytes(call, "result area", &got.rows, &expected.rows)
+fn compare_outputs(command: &Command, got: &Outputs, expected: &Outputs) -> Step {
+    compare_bytes(command, "answer area", &got.values, &expected.values)?;
+    compare_bytes(command, "result area", &got.rows, &expected.rows)
 }
 
-fn compare_areas(call: &Call, got: &Areas, expected: &Areas) -> Step {
-    compare_bytes(call, "state", &got.state, &expected.state)?;
-    compare_bytes(call, "NOR", &got.nor, &expected.nor)?;
-    compare_bytes(call, "NAND", &got.nand, &expected.nand)
+fn compare_areas(command: &Command, of: &str, got: &Areas, expected: &Areas) -> Step {
+    let parts = [
+        ("state of form 1", Part::State(Form::New)),
+        ("state of form 0", Part::State(Form::Old)),
+        ("NOR", Part::Nor),
+        ("NAND", Part::Nand),
+    ];
+    parts.iter().try_for_each(|(name, part)| {
+        compare_bytes(command, &format!("{of}{name}"), got.part(*part), expected.part(*part))
+    })
 }
 
-fn compare_bytes(call: &Call, area: &str, got: &[u8], expected: &[u8]) -> Step {
+fn compare_bytes(command: &Command, area: &str, got: &[u8], expected: &[u8]) -> Step {
+    match first_difference(got, expected) {
+        Some(difference) => differ(command, format!("{area} {difference}")),
+        None => Ok(()),
+    }
+}
+
+/// The first byte in which two areas of one length differ.
+pub fn first_difference(got: &[u8], expected: &[u8]) -> Option<String> {
     if got == expected {
-        return Ok(());
+        return None;
     }
     let place = got.iter().zip(expected).position(|(got, expected)| got != expected).unwrap_or(0);
-    differ(call, format!("{area} byte {place} is {}, expected {}", got[place], expected[place]))
+    Some(format!("byte {place} is {}, expected {}", got[place], expected[place]))
 }

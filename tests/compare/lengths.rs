@@ -1,13 +1,21 @@
 //! State and answer areas of wrong lengths: number 20 before everything else, nothing changed.
 use crate::judge::{Difference, Step};
 use crate::random::Random;
-use crate::trial::Trial;
-use script::calls::{Call, Outputs, Window, UNTOUCHED};
+use crate::trial::{Trial, NOR_BYTES};
+use abi::LentStore;
+use script::areas::SLOT_BYTES;
+use script::calls::{Call, Carry, Outputs, Window, UNTOUCHED};
+use script::command::Command;
+use script::form::Form;
 
 const WRONG_LENGTH: u8 = 20;
-/// 775 is the length of form 0.
-const STATE_LENGTHS: [usize; 6] = [0, 1, 775, 782, 784, 1566];
 const ANSWER_LENGTHS: [usize; 8] = [0, 1, 7, 9, 160, 167, 169, 336];
+
+/// A length that a state area of this form does not have; it may be the other form's.
+fn wrong_length(form: Form, random: &mut Random) -> usize {
+    let right = form.state_bytes();
+    random.pick(&[0, 1, right - 1, right + 1, 2 * right, form.other().state_bytes()])
+}
 
 /// Tries every call once on the present areas, with one wrong length or two.
 pub fn try_wrong_ones(trial: &mut Trial, slots: u64) -> Step {
@@ -40,7 +48,7 @@ fn try_wrong_one(trial: &mut Trial, call: &Call) -> Step {
     let mut state = trial.areas().state.clone();
     let (wrong_state, wrong_answer) = which_are_wrong(call, &mut trial.random);
     if wrong_state {
-        state.resize(trial.random.pick(&STATE_LENGTHS), 0);
+        state.resize(wrong_length(Form::New, &mut trial.random), 0);
     }
     if wrong_answer {
         outputs.values.resize(trial.random.pick(&ANSWER_LENGTHS), UNTOUCHED);
@@ -48,8 +56,12 @@ fn try_wrong_one(trial: &mut Trial, call: &Call) -> Step {
     let (state_before, outputs_before) = (state.clone(), outputs.clone());
     let number = trial.judge.call_with(call, &mut state, &mut outputs.rows, &mut outputs.values);
     let Some(number) = number else { return Ok(()) };
-    let lengths =
-        format!("{call} with a state area of {} and an answer area of {} bytes", state.len(), outputs.values.len());
+    let lengths = format!(
+        "{} {call} with a state area of {} and an answer area of {} bytes",
+        call.name(),
+        state.len(),
+        outputs.values.len()
+    );
     if number != WRONG_LENGTH {
         return Err(Difference(format!("{lengths}: number {number}, expected {WRONG_LENGTH}")));
     }
@@ -57,5 +69,45 @@ fn try_wrong_one(trial: &mut Trial, call: &Call) -> Step {
         return Err(Difference(format!("{lengths}: refused, but an area changed")));
     }
     trial.judge.figures.wrong_lengths += 1;
-    trial.judge.compare_areas(call)
+    trial.judge.compare_areas(&Command::Call(Form::New, call.clone()))
+}
+
+/// Tries both conversions on the present areas, with one state area of a wrong length or with two.
+pub fn try_wrong_conversions(trial: &mut Trial, slots: u64) -> Step {
+    let slots = if trial.random.once_in(4) { slots + 1 } else { slots };
+    for into in [Form::New, Form::Old] {
+        for wrong in [[true, false], [false, true], [true, true]] {
+            try_wrong_conversion(trial, &Carry { into, slots, second: 1 }, wrong)?;
+        }
+    }
+    Ok(())
+}
+
+fn try_wrong_conversion(trial: &mut Trial, carry: &Carry, wrong: [bool; 2]) -> Step {
+    let forms = [carry.into.other(), carry.into];
+    let mut state = trial.areas().state_of(forms[0]).to_vec();
+    let mut to_state = vec![UNTOUCHED; forms[1].state_bytes()];
+    if wrong[0] {
+        state.resize(wrong_length(forms[0], &mut trial.random), 0);
+    }
+    if wrong[1] {
+        to_state.resize(wrong_length(forms[1], &mut trial.random), UNTOUCHED);
+    }
+    let nand_bytes = trial.areas().nand.len();
+    let mut nand = vec![UNTOUCHED; trial.random.pick(&[nand_bytes, nand_bytes, 0, nand_bytes + SLOT_BYTES])];
+    let mut nor = vec![UNTOUCHED; trial.random.pick(&[NOR_BYTES, NOR_BYTES, 0])];
+    let state_before = state.clone();
+    let second = LentStore { state: &mut to_state, nand: &mut nand, nor: &mut nor };
+    let Some(number) = trial.judge.carry_with(carry.into, carry.slots, &mut state, second) else { return Ok(()) };
+    let command = Command::Carry(carry.clone());
+    let lengths = format!("{command} with state areas of {} and {} bytes", state.len(), to_state.len());
+    if number != WRONG_LENGTH {
+        return Err(Difference(format!("{lengths}: number {number}, expected {WRONG_LENGTH}")));
+    }
+    let written = to_state.iter().chain(&nand).chain(&nor).any(|byte| *byte != UNTOUCHED);
+    if state != state_before || written {
+        return Err(Difference(format!("{lengths}: refused, but an area changed")));
+    }
+    trial.judge.figures.wrong_lengths += 1;
+    trial.judge.compare_areas(&command)
 }

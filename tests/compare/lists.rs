@@ -1,4 +1,5 @@
 //! Lists of calls after a format, on chips that held anything before.
+use crate::convert;
 use crate::habits::Habits;
 use crate::judge::Step;
 use crate::lengths;
@@ -29,7 +30,8 @@ pub fn on_largest_chip(trial: &mut Trial) -> Step {
         habits.close(trial)?;
         habits.ask(trial)?;
     }
-    habits.search_all(trial)
+    habits.search_all(trial)?;
+    convert::there_and_back(trial, slots)
 }
 
 fn list(trial: &mut Trial, slots: u64, calls: u64) -> Step {

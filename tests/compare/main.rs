@@ -1,5 +1,7 @@
-//! Holds the built library and the program to the model: random lists and damaged stores, one script, random inputs.
+//! Holds the built library and the program to the model: random lists, damaged stores and conversions, one script,
+//! random inputs.
 mod bases;
+mod convert;
 mod damage;
 mod edges;
 mod figures;
@@ -12,6 +14,7 @@ mod mids;
 mod page_rules;
 mod patterns;
 mod random;
+mod reached;
 mod shorten;
 mod states;
 mod trial;
@@ -28,11 +31,12 @@ const USAGE: &str = "compare random SECONDS SEED FOLDER | compare fixed SCRIPT..
 
 type Kind = (&'static str, fn(&mut Trial) -> Step);
 const LARGE: Kind = ("large", lists::on_largest_chip);
-const KINDS: [Kind; 5] = [
+const KINDS: [Kind; 6] = [
     ("list", lists::short_or_long),
     ("damage", damage::rounds),
     ("state", states::rounds),
     ("edge", edges::rounds),
+    ("convert", convert::rounds),
     LARGE,
 ];
 
@@ -40,7 +44,7 @@ const KINDS: [Kind; 5] = [
 fn kind_at(place: u64) -> Kind {
     match place {
         place if place % 1000 == 100 => LARGE,
-        place => KINDS[[0, 1, 0, 1, 2, 0, 1, 3][(place % 8) as usize]],
+        place => KINDS[[0, 1, 4, 0, 1, 2, 0, 4, 1, 3][(place % 10) as usize]],
     }
 }
 

@@ -6,9 +6,9 @@ use crate::judge::Step;
 use crate::random::Random;
 use crate::trial::Trial;
 use model::limits::{GREATEST_LOAD, LAST_SERIAL, LAST_TIME, LEAST_LOAD};
-use script::areas::{HEADS, LAST_LOADS, POINTER_BYTES};
 use script::calls::Call;
-use script::command::{Command, Field, Part};
+use script::command::{Command, Field};
+use script::form::Form;
 
 pub fn rounds(trial: &mut Trial) -> Step {
     let mut habits = bases::any(trial)?;
@@ -25,14 +25,15 @@ pub fn rounds(trial: &mut Trial) -> Step {
     near_last_serial(trial)
 }
 
-fn move_to_bound(trial: &mut Trial, slots: u64) -> Step {
+pub fn move_to_bound(trial: &mut Trial, slots: u64) -> Step {
     let (_, field) = trial.random.pick(&Field::ALL);
     let present = i128::from(trial.field(field));
-    match trial.random.below(11) {
+    match trial.random.below(12) {
         0 => any_head_slot(trial, slots),
         1 => any_last_load(trial),
         2 => move_serials(trial),
-        3 => change_field(trial, Part::State, field.place().0, field.place().1),
+        11 if trial.form == Form::Old => any_oldest_live(trial),
+        3 => change_field(trial, trial.state(), field.place(trial.form).0, field.place(trial.form).1),
         4 => {
             let step = trial.random.pick(&[-1, 1]);
             trial.set(field, present + step)
@@ -83,13 +84,20 @@ fn any_head_slot(trial: &mut Trial, slots: u64) -> Step {
     let slots = slots as u16;
     let slot = trial.random.pick(&[0, slots - 1, slots, 65_534, 65_535]);
     let level = trial.random.index(4);
-    trial.poke(Part::State, HEADS + POINTER_BYTES * level, &slot.to_le_bytes())
+    let form = trial.form;
+    trial.poke(trial.state(), form.heads() + form.pointer_bytes() * level, &slot.to_le_bytes())
 }
 
 fn any_last_load(trial: &mut Trial) -> Step {
     let load = load_bound(&mut trial.random) as i32;
     let place = trial.random.index(13);
-    trial.poke(Part::State, LAST_LOADS + 4 * place, &load.to_le_bytes())
+    trial.poke(trial.state(), trial.form.last_loads() + 4 * place, &load.to_le_bytes())
+}
+
+/// Form 0's oldest live time, which stands before the heads, at its bound or past it.
+fn any_oldest_live(trial: &mut Trial) -> Step {
+    let time = trial.random.pick(&[0, LAST_TIME, LAST_TIME + 1, LAST_TIME + 2, u64::MAX]);
+    trial.poke(trial.state(), trial.form.heads() - 8, &time.to_le_bytes())
 }
 
 /// An empty store that has come up to the last serials, then calls until they are used up.

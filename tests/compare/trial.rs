@@ -5,6 +5,7 @@ use model::bytes::found;
 use script::areas::{Areas, PAGE_BYTES, SLOT_BYTES};
 use script::calls::{Call, Window};
 use script::command::{Command, Field, Fill, Part};
+use script::form::Form;
 
 pub const NOR_BYTES: usize = 6_144;
 pub const BUCKET_BYTES: usize = 128;
@@ -19,12 +20,14 @@ pub struct Trial<'a> {
     pub judge: &'a mut Judge,
     pub random: Random,
     pub commands: Vec<Command>,
+    /// The form of the selected store.
+    pub form: Form,
 }
 
 impl<'a> Trial<'a> {
     pub fn new(judge: &'a mut Judge, seed: u64) -> Trial<'a> {
         judge.begin_anew();
-        Trial { judge, random: Random::new(seed), commands: Vec::new() }
+        Trial { judge, random: Random::new(seed), commands: Vec::new(), form: Form::New }
     }
 
     pub fn run(&mut self, command: Command) -> Step {
@@ -33,7 +36,11 @@ impl<'a> Trial<'a> {
     }
 
     pub fn call(&mut self, call: Call) -> Step {
-        self.run(Command::Call(call))
+        let form = match call {
+            Call::Plate { .. } => Form::New,
+            _ => self.form,
+        };
+        self.run(Command::Call(form, call))
     }
 
     /// Chips of the right lengths that hold anything.
@@ -53,7 +60,17 @@ impl<'a> Trial<'a> {
     }
 
     pub fn set(&mut self, field: Field, value: i128) -> Step {
-        self.run(Command::SetField { field, value })
+        match self.form {
+            Form::New => self.run(Command::SetField { field, value }),
+            Form::Old => {
+                let (offset, width) = field.place(Form::Old);
+                self.poke(Part::State(Form::Old), offset, &value.to_le_bytes()[..width])
+            }
+        }
+    }
+
+    pub fn state(&self) -> Part {
+        Part::State(self.form)
     }
 
     pub fn areas(&self) -> &Areas {
@@ -61,17 +78,17 @@ impl<'a> Trial<'a> {
     }
 
     pub fn field(&self, field: Field) -> u64 {
-        let (offset, width) = field.place();
+        let (offset, width) = field.place(self.form);
         let mut bytes = [0; 8];
-        bytes[..width].copy_from_slice(&self.areas().state[offset..offset + width]);
+        bytes[..width].copy_from_slice(&self.areas().part(self.state())[offset..offset + width]);
         u64::from_le_bytes(bytes)
     }
 
     /// How many rows a search would find, 0 if it would be refused.
     pub fn rows_found(&self, slots: u64, window: &Window) -> usize {
-        match self.judge.log() {
+        match self.judge.log(self.form) {
             Some(log) => log.found(window).map_or(0, |found| found.len()),
-            None => found(self.areas(), slots, window).map_or(0, |found| found.len()),
+            None => found(self.form, self.areas(), slots, window).map_or(0, |found| found.len()),
         }
     }
 }

@@ -4,10 +4,11 @@ use crate::lines::{asked, lines_of, Asked, SLOTS};
 use crate::paper::{PaperLog, Said};
 use crate::service_page::page;
 use script::calls::Call;
+use script::form::Form;
 
 /// The answers to the lines of an input, one after another. "It starts from a format."
 pub fn answers(input: &[u8]) -> impl Iterator<Item = String> + '_ {
-    let mut log = PaperLog::formatted(SLOTS);
+    let mut log = PaperLog::formatted(Form::New, SLOTS);
     lines_of(input).map(move |line| match asked(line) {
         Some(asked) => {
             let outcome = log.call(&asked.call);

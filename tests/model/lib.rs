@@ -1,4 +1,4 @@
-//! Document 01, with W-201 and W-202, read a second time: the paper log, the program's lines, and an expectation of every
+//! Document 01, with W-201 to W-203, read a second time: the paper log, the program's lines, and an expectation of every
 //! byte.
 pub mod answers;
 pub mod bytes;

@@ -1,4 +1,4 @@
-//! The limits of document 01 and the numbers of its grounds.
+//! The limits of document 01 and the numbers of the grounds.
 pub const SLOTS: std::ops::RangeInclusive<u64> = 2..=4096;
 pub const LAST_TIME: u64 = 999_999_999_999_999;
 pub const LEAST_LOAD: i32 = -50_000;
@@ -17,12 +17,14 @@ pub const STATE_BOUND: u8 = 3;
 pub const TIME_LIMIT: u8 = 4;
 pub const LOAD_LIMIT: u8 = 5;
 pub const BACKWARD_RANGE: u8 = 6;
-pub const TIME_BELOW_LAST: u8 = 7;
+pub const TIME_BELOW_NEXT: u8 = 7;
 pub const LAST_SERIALS: u8 = 8;
 pub const NOTHING_TO_DO: u8 = 9;
 pub const DAMAGE: u8 = 10;
 pub const PAGE_NOT_ERASED: u8 = 11;
 pub const TOO_MANY_ROWS: u8 = 12;
+pub const OTHER_FORM: u8 = 13;
+pub const NO_WAY_BACK: u8 = 14;
 
 /// What a call gives, or the number of the first ground against it.
 pub type Outcome<T> = Result<T, u8>;

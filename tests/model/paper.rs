@@ -3,6 +3,7 @@ use crate::limits::*;
 use crate::load_tree::LoadTree;
 use crate::plate::plate_of;
 use script::calls::{Call, Window, PLATES};
+use script::form::Form;
 
 #[derive(Clone, Debug, PartialEq)]
 pub struct Lift {
@@ -44,8 +45,10 @@ pub struct Said {
     pub values: Vec<u64>,
 }
 
+/// The log is the same in both forms; they differ in whether a lift may have the time of the one before.
 #[derive(Clone)]
 pub struct PaperLog {
+    form: Form,
     slots: u64,
     /// Closed segments, oldest first; the last one's serial is the open serial less 1.
     closed: std::collections::VecDeque<Vec<Lift>>,
@@ -57,8 +60,9 @@ pub struct PaperLog {
 }
 
 impl PaperLog {
-    pub fn formatted(slots: u64) -> PaperLog {
+    pub fn formatted(form: Form, slots: u64) -> PaperLog {
         PaperLog {
+            form,
             slots,
             closed: Default::default(),
             open: Vec::new(),
@@ -68,9 +72,32 @@ impl PaperLog {
         }
     }
 
-    /// "next time becomes the last accepted time" (W-202), "at first 0"
+    pub fn form(&self) -> Form {
+        self.form
+    }
+
+    pub fn slots(&self) -> u64 {
+        self.slots
+    }
+
+    /// "last accepted + 1, at first 0"; in form 1 "next time becomes the last accepted time" (W-202)
     pub fn next_time(&self) -> u64 {
-        self.last_time.unwrap_or(0)
+        match (self.last_time, self.form) {
+            (None, _) => 0,
+            (Some(last), Form::Old) => last + 1,
+            (Some(last), Form::New) => last,
+        }
+    }
+
+    /// A conversion (W-203) keeps serials and lifts.
+    pub fn carried_into(mut self, form: Form) -> PaperLog {
+        self.form = form;
+        self
+    }
+
+    /// Whether each lift is later than the one before it.
+    pub fn times_rise(&self) -> bool {
+        self.lifts().zip(self.lifts().skip(1)).all(|(before, lift)| before.time < lift.time)
     }
 
     /// Every lift that the log holds, oldest first.
@@ -100,7 +127,7 @@ impl PaperLog {
                 Err(SLOTS_OR_NAND_LENGTH)
             }
             Call::Format { slots } => {
-                *self = PaperLog::formatted(slots);
+                *self = PaperLog::formatted(self.form, slots);
                 Ok(Said::default())
             }
             Call::Append { time, load, note, .. } => self.append(Lift { time, load, note }),
@@ -114,7 +141,7 @@ impl PaperLog {
     fn append(&mut self, lift: Lift) -> Outcome<Said> {
         refuse_if(time_past_limit(lift.time), TIME_LIMIT)?;
         refuse_if(load_past_limit(lift.load), LOAD_LIMIT)?;
-        refuse_if(lift.time < self.next_time(), TIME_BELOW_LAST)?;
+        refuse_if(lift.time < self.next_time(), TIME_BELOW_NEXT)?;
         refuse_if(self.open_serial >= u64::from(LAST_SERIAL) - 1, LAST_SERIALS)?;
         let mut said = Said { repeats_time: Some(lift.time) == self.last_time, ..Said::default() };
         if self.open.len() == SEGMENT_LIFTS {

@@ -1,54 +1,61 @@
 //! The areas that a store is lent, and the commands that change them from outside.
+use crate::calls::{Carry, Store};
 use crate::command::{Command, Field, Fill, Part};
+use crate::form::Form;
 
-pub const STATE_BYTES: usize = 783;
-/// A pointer: slot 2, serial 4, time 8.
-pub const POINTER_BYTES: usize = 14;
-/// Where the four heads, the last loads, the two buffers and the open segment's start stand in the state.
-pub const HEADS: usize = 19;
-pub const LAST_LOADS: usize = 75;
-pub const PAGE_BUFFER: usize = 127;
-pub const BLOOM_BUFFER: usize = 639;
-pub const START: usize = 767;
 pub const PAGE_BYTES: usize = 512;
 pub const SLOT_BYTES: usize = 32 * PAGE_BYTES;
 
+/// Two chips, and a state of either form.
 #[derive(Clone, PartialEq)]
 pub struct Areas {
+    pub old_state: Vec<u8>,
     pub state: Vec<u8>,
     pub nand: Vec<u8>,
     pub nor: Vec<u8>,
 }
 
+/// A state of zeros whose heads are none.
+fn empty_state(form: Form) -> Vec<u8> {
+    let mut state = vec![0; form.state_bytes()];
+    for level in 0..4 {
+        let slot = form.heads() + form.pointer_bytes() * level;
+        state[slot..slot + 2].fill(255);
+    }
+    state
+}
+
 impl Areas {
-    /// Where a script begins: no chips, a state of zeros whose heads are none.
+    /// Where a script begins: no chips, empty states.
     pub fn empty() -> Areas {
-        let mut state = vec![0; STATE_BYTES];
-        for level in 0..4 {
-            let slot = HEADS + POINTER_BYTES * level;
-            state[slot..slot + 2].fill(255);
-        }
-        Areas { state, nand: Vec::new(), nor: Vec::new() }
+        let [old_state, state] = [Form::Old, Form::New].map(empty_state);
+        Areas { old_state, state, nand: Vec::new(), nor: Vec::new() }
+    }
+
+    pub fn state_of(&self, form: Form) -> &[u8] {
+        self.part(Part::State(form))
     }
 
     pub fn part(&self, part: Part) -> &[u8] {
         match part {
             Part::Nand => &self.nand,
             Part::Nor => &self.nor,
-            Part::State => &self.state,
+            Part::State(Form::Old) => &self.old_state,
+            Part::State(Form::New) => &self.state,
         }
     }
 
-    fn part_mut(&mut self, part: Part) -> &mut [u8] {
+    pub fn part_mut(&mut self, part: Part) -> &mut [u8] {
         match part {
             Part::Nand => &mut self.nand,
             Part::Nor => &mut self.nor,
-            Part::State => &mut self.state,
+            Part::State(Form::Old) => &mut self.old_state,
+            Part::State(Form::New) => &mut self.state,
         }
     }
 
     fn set_field(&mut self, field: Field, value: i128) {
-        let (offset, width) = field.place();
+        let (offset, width) = field.place(Form::New);
         self.state[offset..offset + width].copy_from_slice(&value.to_le_bytes()[..width]);
     }
 }
@@ -87,10 +94,32 @@ impl World {
         World { areas: Areas::empty(), others: vec![Areas::empty(); STORES], selected: 0, kept: None }
     }
 
+    pub fn selected(&self) -> usize {
+        self.selected
+    }
+
+    pub fn store(&self, store: usize) -> &Areas {
+        if store == self.selected {
+            &self.areas
+        } else {
+            &self.others[store]
+        }
+    }
+
     fn select(&mut self, store: usize) {
         std::mem::swap(&mut self.areas, &mut self.others[self.selected]);
         std::mem::swap(&mut self.areas, &mut self.others[store]);
         self.selected = store;
+    }
+
+    /// Has the selected store carried into another one. Into itself it is carried from a copy, since the areas of a
+    /// call do not overlap.
+    pub fn carry(&mut self, carry: &Carry, by: &mut impl Store) -> u8 {
+        if carry.second == self.selected {
+            by.carry(carry, &mut self.areas.clone(), &mut self.areas)
+        } else {
+            by.carry(carry, &mut self.areas, &mut self.others[carry.second])
+        }
     }
 
     /// Carries out a command that changes areas without a call; others are left to the caller.
@@ -118,7 +147,7 @@ impl World {
                     self.selected = kept.selected;
                 }
             }
-            Command::Call(_) | Command::Rows | Command::Dump { .. } | Command::Changed => {}
+            Command::Call(..) | Command::Carry(_) | Command::Rows | Command::Dump { .. } | Command::Changed => {}
         }
     }
 }

@@ -1,5 +1,6 @@
-//! The seven calls of document 01 as values, and what answers them: the built library or the model.
+//! The calls as values, and what answers them: the built library or the model.
 use crate::areas::Areas;
+use crate::form::Form;
 
 pub const ROW_BYTES: usize = 32;
 pub const PLATES: usize = 21;
@@ -14,6 +15,7 @@ pub struct Window {
     pub k2: i32,
 }
 
+/// The seven calls of document 01.
 #[derive(Clone, Debug, PartialEq)]
 pub enum Call {
     Format { slots: u64 },
@@ -54,6 +56,30 @@ impl Call {
     }
 }
 
+/// W-203: the selected store is carried into the second one, into a form.
+#[derive(Clone, Debug, PartialEq)]
+pub struct Carry {
+    pub into: Form,
+    pub slots: u64,
+    pub second: usize,
+}
+
+impl Carry {
+    pub const NAMES: [&'static str; 2] = ["forward", "backward"];
+
+    /// The call's place in `NAMES`.
+    pub fn kind(&self) -> usize {
+        match self.into {
+            Form::New => 0,
+            Form::Old => 1,
+        }
+    }
+
+    pub fn name(&self) -> &'static str {
+        Self::NAMES[self.kind()]
+    }
+}
+
 /// The two areas that a call writes its answer into.
 #[derive(Clone, Debug, PartialEq)]
 pub struct Outputs {
@@ -79,5 +105,9 @@ impl Outputs {
 
 /// Whoever answers a call gives its number and changes the areas as the call does.
 pub trait Store {
-    fn answer(&mut self, call: &Call, areas: &mut Areas, outputs: &mut Outputs) -> u8;
+    /// A call on a store of that form.
+    fn answer(&mut self, form: Form, call: &Call, areas: &mut Areas, outputs: &mut Outputs) -> u8;
+
+    /// The first store is only read; it is lent to be changed so that a byte written there can be seen.
+    fn carry(&mut self, carry: &Carry, first: &mut Areas, second: &mut Areas) -> u8;
 }

@@ -1,13 +1,13 @@
 //! One line of a script as a value, and its text.
-use crate::areas::START;
-use crate::calls::{Call, Window};
+use crate::calls::{Call, Carry, Window};
+use crate::form::Form;
 use std::fmt;
 
 #[derive(Clone, Copy, Debug, PartialEq)]
 pub enum Part {
     Nand,
     Nor,
-    State,
+    State(Form),
 }
 
 impl Part {
@@ -24,10 +24,11 @@ pub enum Shown {
 }
 
 impl Shown {
-    pub const ALL: [(&'static str, Shown); 4] = [
+    pub const ALL: [(&'static str, Shown); 5] = [
         ("nand", Shown::Part(Part::Nand)),
         ("nor", Shown::Part(Part::Nor)),
-        ("state1", Shown::Part(Part::State)),
+        ("state0", Shown::Part(Part::State(Form::Old))),
+        ("state1", Shown::Part(Part::State(Form::New))),
         ("area", Shown::ResultArea),
     ];
 
@@ -71,21 +72,23 @@ impl Field {
         Field::ALL.iter().find(|(_, field)| *field == self).unwrap().0
     }
 
-    /// Offset and width in the state area.
-    pub fn place(self) -> (usize, usize) {
+    /// Offset and width in the state area of a form.
+    pub fn place(self, form: Form) -> (usize, usize) {
+        let start = form.start();
         match self {
             Field::Oldest => (0, 4),
             Field::Open => (4, 4),
             Field::Count => (8, 2),
             Field::Buckets => (10, 1),
             Field::Next => (11, 8),
-            Field::Start => (START, 8),
-            Field::Low => (START + 8, 4),
-            Field::High => (START + 12, 4),
+            Field::Start => (start, 8),
+            Field::Low => (start + 8, 4),
+            Field::High => (start + 12, 4),
         }
     }
 }
 
+/// A call of document 01 is of a form; a plate is looked up without a store, and counts as form 1's.
 #[derive(Clone, Debug, PartialEq)]
 pub enum Command {
     Use(usize),
@@ -94,7 +97,8 @@ pub enum Command {
     SetField { field: Field, value: i128 },
     Snap,
     Back,
-    Call(Call),
+    Call(Form, Call),
+    Carry(Carry),
     Rows,
     Dump { shown: Shown, offset: usize, length: usize },
     Changed,
@@ -113,17 +117,25 @@ pub fn hex(bytes: &[u8]) -> String {
     bytes.iter().map(|byte| format!("{byte:02x}")).collect()
 }
 
+/// The word that a line begins with: a call of form 0 has a 0 after its name.
+pub fn command_name(form: Form, call: &Call) -> String {
+    match form {
+        Form::Old => format!("{}0", call.name()),
+        Form::New => call.name().to_string(),
+    }
+}
+
+/// What follows the name.
 impl fmt::Display for Call {
     fn fmt(&self, out: &mut fmt::Formatter) -> fmt::Result {
-        let name = self.name();
         match self {
-            Call::Format { slots } | Call::Close { slots } | Call::Drop { slots } => write!(out, "{name} {slots}"),
-            Call::Append { slots, time, load, note } => write!(out, "{name} {slots} {time} {load} {}", hex(note)),
+            Call::Format { slots } | Call::Close { slots } | Call::Drop { slots } => write!(out, "{slots}"),
+            Call::Append { slots, time, load, note } => write!(out, "{slots} {time} {load} {}", hex(note)),
             Call::Search { slots, window: Window { t1, t2, k1, k2 }, area_bytes } => {
-                write!(out, "{name} {slots} {t1} {t2} {k1} {k2} {area_bytes}")
+                write!(out, "{slots} {t1} {t2} {k1} {k2} {area_bytes}")
             }
-            Call::Tally { slots, t1, t2 } => write!(out, "{name} {slots} {t1} {t2}"),
-            Call::Plate { load } => write!(out, "{name} {load}"),
+            Call::Tally { slots, t1, t2 } => write!(out, "{slots} {t1} {t2}"),
+            Call::Plate { load } => write!(out, "{load}"),
         }
     }
 }
@@ -137,7 +149,8 @@ impl fmt::Display for Command {
             Command::SetField { field, value } => write!(out, "fields {} {value}", field.name()),
             Command::Snap => write!(out, "snap"),
             Command::Back => write!(out, "back"),
-            Command::Call(call) => write!(out, "{call}"),
+            Command::Call(form, call) => write!(out, "{} {call}", command_name(*form, call)),
+            Command::Carry(carry) => write!(out, "{} {} {}", carry.name(), carry.slots, carry.second),
             Command::Rows => write!(out, "rows"),
             Command::Dump { shown, offset, length } => write!(out, "dump {} {offset} {length}", shown.name()),
             Command::Changed => write!(out, "changed"),

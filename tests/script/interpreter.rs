@@ -1,7 +1,8 @@
 //! Runs a script over a store and writes the lines that answer it.
-use crate::areas::{World, PAGE_BYTES, SLOT_BYTES};
-use crate::calls::{Call, Outputs, Store, PLATES, ROW_BYTES};
-use crate::command::{hex, Command, Shown};
+use crate::areas::{Areas, World, PAGE_BYTES, SLOT_BYTES};
+use crate::calls::{Call, Carry, Outputs, Store, PLATES, ROW_BYTES};
+use crate::command::{command_name, hex, Command, Shown};
+use crate::form::Form;
 use crate::hash::{copy_changed, fnv1a, KeptHash};
 use crate::parse::parse;
 use std::io::{BufRead, Write};
@@ -44,7 +45,8 @@ impl<S: Store> Interpreter<S> {
 
     fn perform(&mut self, command: &Command) -> String {
         match command {
-            Command::Call(call) => self.call(call),
+            Command::Call(form, call) => self.call(*form, call),
+            Command::Carry(carry) => self.carry(carry),
             Command::Rows => self.rows(),
             Command::Dump { shown, offset, length } => {
                 let bytes = match shown {
@@ -63,15 +65,26 @@ impl<S: Store> Interpreter<S> {
         }
     }
 
-    fn call(&mut self, call: &Call) -> String {
+    fn remember_chips(&mut self) {
+        copy_changed(&self.world.areas.nand, &mut self.nand_before);
+        copy_changed(&self.world.areas.nor, &mut self.nor_before);
+    }
+
+    fn carry(&mut self, carry: &Carry) -> String {
+        self.remember_chips();
+        let number = self.world.carry(carry, &mut self.store);
+        let second = hashes(self.world.store(carry.second), carry.into, &mut self.nand_hash);
+        format!("{} {number}{second}\n", carry.name())
+    }
+
+    fn call(&mut self, form: Form, call: &Call) -> String {
         if !matches!(call, Call::Plate { .. }) {
-            copy_changed(&self.world.areas.nand, &mut self.nand_before);
-            copy_changed(&self.world.areas.nor, &mut self.nor_before);
+            self.remember_chips();
         }
         let mut outputs = Outputs::untouched(call);
-        let number = self.store.answer(call, &mut self.world.areas, &mut outputs);
+        let number = self.store.answer(form, call, &mut self.world.areas, &mut outputs);
         let accepted = number == 0;
-        let mut line = format!("{} {number}", call.name());
+        let mut line = format!("{} {number}", command_name(form, call));
         match call {
             Call::Search { .. } => {
                 let count = if accepted { outputs.value(0) } else { 0 };
@@ -87,15 +100,9 @@ impl<S: Store> Interpreter<S> {
             _ => {}
         }
         if !matches!(call, Call::Plate { .. }) {
-            line += &self.hashes();
+            line += &hashes(&self.world.areas, form, &mut self.nand_hash);
         }
         line + "\n"
-    }
-
-    fn hashes(&mut self) -> String {
-        let areas = &self.world.areas;
-        let nand = self.nand_hash.of(&areas.nand);
-        format!(" nand={nand:016x} nor={:016x} state={:016x}", fnv1a(&areas.nor), fnv1a(&areas.state))
     }
 
     fn rows(&self) -> String {
@@ -119,4 +126,9 @@ impl<S: Store> Interpreter<S> {
         let nor = areas.nor.iter().zip(&self.nor_before).filter(|(now, before)| now != before).count();
         format!("{line}\nnorchanged {nor}\n")
     }
+}
+
+fn hashes(areas: &Areas, form: Form, nand_hash: &mut KeptHash) -> String {
+    let (nand, nor, state) = (nand_hash.of(&areas.nand), fnv1a(&areas.nor), fnv1a(areas.state_of(form)));
+    format!(" nand={nand:016x} nor={nor:016x} state={state:016x}")
 }

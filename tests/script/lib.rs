@@ -2,6 +2,7 @@
 pub mod areas;
 pub mod calls;
 pub mod command;
+pub mod form;
 pub mod hash;
 pub mod interpreter;
 pub mod parse;

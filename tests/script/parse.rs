@@ -1,7 +1,8 @@
 //! Reads one line of a script.
 use crate::areas::STORES;
-use crate::calls::{Call, Window};
+use crate::calls::{Call, Carry, Window};
 use crate::command::{Command, Field, Fill, Part, Shown};
+use crate::form::Form;
 use std::str::{FromStr, SplitWhitespace};
 
 struct Words<'a>(SplitWhitespace<'a>);
@@ -73,13 +74,26 @@ impl<'a> Words<'a> {
         }
     }
 
+    /// A call of form 0 has a 0 after its name; a plate is looked up without a store.
+    fn call_of_form(&mut self, name: &str) -> Result<Command, String> {
+        match name.strip_suffix('0') {
+            Some(old) if old != "plate" => Ok(Command::Call(Form::Old, self.call(old)?)),
+            _ => Ok(Command::Call(Form::New, self.call(name)?)),
+        }
+    }
+
+    fn carry(&mut self, into: Form) -> Result<Command, String> {
+        Ok(Command::Carry(Carry { into, slots: self.number()?, second: self.store()? }))
+    }
+
     fn command(&mut self) -> Result<Command, String> {
         match self.word()? {
             "use" => self.store().map(Command::Use),
             "areas" => Ok(Command::Areas { nand_bytes: self.number()?, nor_bytes: self.number()?, fill: self.fill()? }),
             "nand" => self.poke(Part::Nand),
             "nor" => self.poke(Part::Nor),
-            "state1" => self.poke(Part::State),
+            "state0" => self.poke(Part::State(Form::Old)),
+            "state1" => self.poke(Part::State(Form::New)),
             "fields" => Ok(Command::SetField { field: self.named(&Field::ALL)?, value: self.number()? }),
             "snap" => Ok(Command::Snap),
             "back" => Ok(Command::Back),
@@ -88,7 +102,9 @@ impl<'a> Words<'a> {
                 Ok(Command::Dump { shown: self.named(&Shown::ALL)?, offset: self.number()?, length: self.number()? })
             }
             "changed" => Ok(Command::Changed),
-            name => self.call(name).map(Command::Call),
+            "forward" => self.carry(Form::New),
+            "backward" => self.carry(Form::Old),
+            name => self.call_of_form(name),
         }
     }
 }

@@ -1,10 +1,11 @@
 // Grounds 1 to 8 and the bounds of the state, on plain numbers; the last loads, low and high after a lift (document 01, "Twelve
 // grounds", "State").
+use form::Form;
 ghost use mathlib.Core.Path.{_≡_};
 ghost use mathlib.Core.Bool.{true};
 ghost use mathlib.Core.List.{map};
 ghost use Rattle.lift.specs.Limits as Limits;
-ghost use Rattle.form.specs.declared.Form.the-variants.{New};
+ghost use Rattle.form.specs.declared.Form.the-variants.{Old, New};
 ghost use Rattle.bounds.specs.Bounds.{serialsOk, countsOk, timesOk, spanOk, loadsOk};
 ghost use Rattle.bounds.specs.Grounds.{formatGround, liftGround, queryGround};
 ghost use Rattle.bounds.specs.Lifts as Lifts;
@@ -26,7 +27,7 @@ const LIFTS_MOST: u16 = 320;
 
 const BUCKETS_MOST: u8 = 36;
 
-// "at most 999,999,999,999,999", and a start "at most 1,000,000,000,000,000"
+// Form 1: next "at most 999,999,999,999,999"; a start, and in form 0 every time, "at most 1,000,000,000,000,000"
 const NEXT_MOST: u64 = 999999999999999;
 
 const START_MOST: u64 = 1000000000000000;
@@ -71,7 +72,27 @@ pub fn counts_ok(current: u32, count: u16, buckets: u8) -> bool
         & (exact & (!(current == SERIAL_MOST) | empty))
 }
 
-pub fn times_ok(current: u32, count: u16, next: u64, start: u64) -> bool
+pub fn times_ok(form: Form, current: u32, count: u16, next: u64, live: u64, start: u64) -> bool
+    ensures { λ r. ⌜ r ≡ timesOk form current count next live start ⌝ }
+{
+    match form {
+        Form::Old => old_times_ok(current, count, next, live, start),
+        Form::New => new_times_ok(current, count, next, start),
+    }
+}
+
+fn old_times_ok(current: u32, count: u16, next: u64, live: u64, start: u64) -> bool
+    ensures { λ r. ⌜ r ≡ timesOk Old current count next live start ⌝ }
+{
+    let empty = count == 0;
+    let new = (current == 1) & empty;
+    let first = next == 0;
+    let exact = (first & new) | (!first & !new);
+    ((next <= START_MOST) & ((live <= START_MOST) & (start <= START_MOST)))
+        & (exact & (empty | (start < next)))
+}
+
+fn new_times_ok(current: u32, count: u16, next: u64, start: u64) -> bool
     ensures { λ r. ⌜ r ≡ timesOk New current count next 0 start ⌝ }
 {
     let empty = count == 0;

@@ -70,38 +70,50 @@ number-expected a (close k) = refl
 number-expected a (drop k) = refl
 number-expected a (search k t1 t2 k1 k2 area) = refl
 
-fair-all : (rs : List Request) (g : Log) → NeverDamage (expectedAll (Paper.answers g (map callOf rs)) rs)
+pub fair-all : (rs : List Request) (g : Log) → NeverDamage (expectedAll (Paper.answers g (map callOf rs)) rs)
 unfolding expectedAll Paper.answers Paper.answered
 fair-all [] g = tt
 fair-all (r ∷ rs) g =
     (subst Fair (sym (number-expected (Paper.answered g (callOf r)) r)) (fair-number g r) .is, fair-all rs (Paper.stepped g (callOf r)))
 
--- ---- S stays
+-- ---- S and the form stay
 
-after-slots : (g : Log) (c : Paper.Call) → Paper.after g c .slots ≡ g .slots
+pub record Stays (before after : Log) : Type 0 where
+  pub slots : after .slots ≡ before .slots
+  pub form : after .form ≡ before .form
+
+unchanged : {g : Log} → Stays g g
+unchanged = record { slots = refl; form = refl }
+
+then : {a b c : Log} → Stays a b → Stays b c → Stays a c
+then p q = record { slots = q .slots ∙ p .slots; form = q .form ∙ p .form }
+
+after-stays : (g : Log) (c : Paper.Call) → Stays g (Paper.after g c)
 unfolding Paper.after appendLog putLog shedLog roomLog closeLog dropLog
-after-slots g (Paper.append k l) =
-    shed (roomLog g (l .load)) (leb (roomLog g (l .load) .slots) (length (roomLog g (l .load) .closed))) ∙ room (isFull (g .current) (l .load))
+after-stays g (Paper.append k l) =
+    let r : Log = roomLog g (l .load) in
+    let both = then (room (isFull (g .current) (l .load))) (shed r (leb (r .slots) (length (r .closed)))) in
+    record { slots = both .slots; form = both .form }
   where
-    shed : (r : Log) (t : Bool) → cond t (dropLog r) r .slots ≡ r .slots
-    shed r true = refl
-    shed r false = refl
+    shed : (r : Log) (t : Bool) → Stays r (cond t (dropLog r) r)
+    shed r true = record { slots = refl; form = refl }
+    shed r false = unchanged
 
-    room : (t : Bool) → cond t (closeLog g) g .slots ≡ g .slots
-    room true = refl
-    room false = refl
-after-slots g (Paper.close k) = refl
-after-slots g (Paper.drop k) = refl
-after-slots g (Paper.search k t1 t2 k1 k2 rows) = refl
+    room : (t : Bool) → Stays g (cond t (closeLog g) g)
+    room true = record { slots = refl; form = refl }
+    room false = unchanged
+after-stays g (Paper.close k) = record { slots = refl; form = refl }
+after-stays g (Paper.drop k) = record { slots = refl; form = refl }
+after-stays g (Paper.search k t1 t2 k1 k2 rows) = unchanged
 
-slots-kept : (cs : List Paper.Call) (g : Log) → Paper.logAfter g cs .slots ≡ g .slots
+pub log-stays : (cs : List Paper.Call) (g : Log) → Stays g (Paper.logAfter g cs)
 unfolding Paper.logAfter Paper.stepped
-slots-kept [] g = refl
-slots-kept (c ∷ cs) g = slots-kept cs (Paper.stepped g c) ∙ go (eqb (Paper.numberOf g c) 0)
+log-stays [] g = unchanged
+log-stays (c ∷ cs) g = then (go (eqb (Paper.numberOf g c) 0)) (log-stays cs (Paper.stepped g c))
   where
-    go : (t : Bool) → cond t (Paper.after g c) g .slots ≡ g .slots
-    go true = after-slots g c
-    go false = refl
+    go : (t : Bool) → Stays g (cond t (Paper.after g c) g)
+    go true = after-stays g c
+    go false = unchanged
 
 -- ---- the same for every store that was formatted
 
@@ -143,12 +155,9 @@ module _ (v : Form) (slots : ℕ) (least : 2 ≤ slots) (most : slots ≤ 4096) 
     abbrev log-end : Log
     log-end = Paper.logAfter (begun v slots) (map callOf rs)
 
-    begun-slots : begun v slots .slots ≡ slots
-    unfolding begun
-    begun-slots = refl
-
     same-slots : here .history .log .slots ≡ slots
-    same-slots = ap (λ (l : Log). l .slots) (here .log) ∙ slots-kept (map callOf rs) (begun v slots) ∙ begun-slots
+    unfolding begun
+    same-slots = ap (λ (l : Log). l .slots) (here .log) ∙ log-stays (map callOf rs) (begun v slots) .slots
 
     -- the state's serials are the paper log's
     pub serials-kept : (at-end .state .oldest ≡ log-end .oldest) × (at-end .state .current ≡ openSerial log-end)

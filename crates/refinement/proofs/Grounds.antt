@@ -40,7 +40,7 @@ other-bad s k a b f = rw (ne-eqb (s * 16384) (k * 16384) (λ e. f (omega arith))
     last false true = refl
     last false false = refl
 
-own-good : (s : ℕ) → 2 ≤ s → s ≤ 4096 → nandBad (s * 16384) s ≡ false
+pub own-good : (s : ℕ) → 2 ≤ s → s ≤ 4096 → nandBad (s * 16384) s ≡ false
 own-good s a b = rw (le-ltb s 2 a, le-ltb 4096 s b, eq-eqb (s * 16384) (s * 16384) refl)
 
 pub state-passes : (h : History) → Good h → (k rest : ℕ) → stateGround (image h) k rest ≡ Paper.ground 1 (not (eqb k (h .log .slots))) rest

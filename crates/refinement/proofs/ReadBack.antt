@@ -29,7 +29,7 @@ use Rattle.refinement.proofs.Records.{pages-are, good-at, held, row-in-
 use Rattle.refinement.proofs.Retained.{built, retained-page, retained-header}
 
 -- an area's records are a list's members, one after the other
-each-is : {A : Type 0} (f : ℕ → A) (d : A) (xs : List A) (from : ℕ) → ((i : ℕ) → i < length xs → f (from + i) ≡ getD xs i d) → each f from (length xs) ≡ xs
+pub each-is : {A : Type 0} (f : ℕ → A) (d : A) (xs : List A) (from : ℕ) → ((i : ℕ) → i < length xs → f (from + i) ≡ getD xs i d) → each f from (length xs) ≡ xs
 unfolding each
 each-is f d [] from g = refl
 each-is {A} f d (x ∷ xs) from g =

@@ -153,7 +153,7 @@ pub fn header_in(h: &[u8], form: Form, slots: u64, before: u32) -> Header
     }
 }
 
-fn zeros() -> [u8; 512]
+pub fn zeros() -> [u8; 512]
     ensures { λ r. ⌜ r ≡ repeated 512 0 ⌝ }
 {
     [0u8; 512]
@@ -165,7 +165,7 @@ fn ones() -> [u8; 512]
     [255u8; 512]
 }
 
-fn put_form(h: &mut [u8], form: Form)
+pub fn put_form(h: &mut [u8], form: Form)
     requires { ⌜ 16 ≤ length (now h) ⌝ }
     ensures { λ _. ⌜ now (h .exit) ≡ splice (now (h .entry)) 10 (formBytes form) ⌝ }
 {

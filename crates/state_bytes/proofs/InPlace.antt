@@ -1,9 +1,9 @@
 -- A lift written straight into the area gives the bytes of the state with the lift: its record lies inside the page buffer, and the
 -- other fields are computed from those read. Assumes nothing.
-use mathlib.Core.Path.{_≡_, sym, ap, _∙_}
+use mathlib.Core.Path.{_≡_, refl, sym, ap, _∙_}
 use mathlib.Core.Logic.{⊎-elim}
 use mathlib.Core.Bool.{cond}
-use mathlib.Core.List.{List}
+use mathlib.Core.List.{List, []}
 use Prim.Native.Nat.{ℕ, _+_, _*_, _%_, _≤_, _<_}
 use native.Mathlib.Omega.{arith}
 use lib.Dec.{eqb}
@@ -25,7 +25,7 @@ use Rattle.store.specs.Pieces.{stateGiven}
 use Rattle.state_bytes.specs.declared.Counters.{Counters}
 use Rattle.state_bytes.specs.declared.Span.{Span}
 use Rattle.state_bytes.specs.Signed.{loadAt, loadsAt}
-use Rattle.state_bytes.specs.StateBytes.{countersOf, spanOf, fieldsBytes, stateBytes, stateIn, withLift}
+use Rattle.state_bytes.specs.StateBytes.{countersOf, spanOf, fieldsBytes, stateBytes, stateAs, stateIn, withLift}
 use Rattle.state_bytes.proofs.Writing.{fields-flat, same-fields}
 
 -- a write inside a part
@@ -59,14 +59,14 @@ module _ (b : List ℕ) (time : ℕ) (load : ℤ) (buckets : ℕ) (page section 
         buckets = buckets;
         next = time;
       }) (countersOf given)
-  unfolding stateIn stateGiven
+  unfolding stateIn stateAs stateGiven
   counters-made oldest current count e1 e2 e3 = rw (← e1, ← e2, ← e3)
 
   pub span-made : (count start first : ℕ) (low high lowest highest : ℤ) → count ≡ numberAt b 8 2 → start ≡ numberAt b 767 8
       → low ≡ loadAt b 775 → high ≡ loadAt b 779 → first ≡ cond (eqb count 0) time start → lowest ≡ lowWith count low load
       → highest ≡ highWith count high load
       → _≡_ {A = Span} (record { start = first; low = lowest; high = highest }) (spanOf given)
-  unfolding stateIn stateGiven
+  unfolding stateIn stateAs stateGiven
   span-made count start first low high lowest highest e1 e2 e3 e4 e5 e6 e7 = rw (e5, e6, e7, ← e1, ← e2, ← e3, ← e4)
 
 pub lift-made : (b b1 b2 : List ℕ) (time code : ℕ) (load : ℤ) (note : List ℕ) (buckets n : ℕ) (c : Counters) (heads : List Pointer)
@@ -75,9 +75,9 @@ pub lift-made : (b b1 b2 : List ℕ) (time code : ℕ) (load : ℤ) (note : List
     → ((page s : List ℕ) → c ≡ countersOf (stateGiven (stateIn b) time load buckets page s))
     → ((page s : List ℕ) → span ≡ spanOf (stateGiven (stateIn b) time load buckets page s))
     → b1 ≡ splice b (127 + n % 16 * 32) (recordBytes time code note)
-    → b2 ≡ fieldsBytes c heads loads (part b1 127 512) section span
+    → b2 ≡ fieldsBytes New (part b1 19 0) c heads loads (part b1 127 512) section span
     → b2 ≡ stateBytes (withLift (stateIn b) time code load note buckets)
-unfolding stateIn stateGiven withLift
+unfolding part stateBytes stateIn stateAs stateGiven withLift
 lift-made b b1 b2 time code load note buckets n c heads loads section span l ln en eh el eb ec es e1 e2 =
     let R = recordBytes time code note in
     let lr : length R ≡ 32 = length-record time code note ln in
@@ -86,5 +86,5 @@ lift-made b b1 b2 time code load note buckets n c heads loads section span l ln 
     ap (λ u. part u 127 512) e1 ∙ part-with b 127 512 (n % 16 * 32) R (omega arith) (omega arith) in
     let pn : part b1 127 512 ≡ t .page = p ∙ ap (λ (m : ℕ). splice (part b 127 512) (m % 16 * 32) R) en in
     let ln : loads ≡ t .loads = el ∙ ap (λ (m : ℕ). pushed (loadsAt b 75 13) m load) en in
-    e2 ∙ same-fields c (countersOf t) heads (t .heads) loads (t .loads) (part b1 127 512) (t .page) section (t .bloom) span (spanOf t)
-    (ec (t .page) (t .bloom)) eh ln pn eb (es (t .page) (t .bloom)) ∙ fields-flat t
+    e2 ∙ same-fields New [] [] c (countersOf t) heads (t .heads) loads (t .loads) (part b1 127 512) (t .page) section (t .bloom) span (spanOf t)
+    refl (ec (t .page) (t .bloom)) eh ln pn eb (es (t .page) (t .bloom)) ∙ fields-flat New [] t

@@ -6,31 +6,51 @@ use native.Mathlib.Omega.{arith}
 use lib.IntN.{ℤ, pos}
 use lib.ListN.{length, getD, length-append}
 use lib.Signed.{mag}
+use mir.Syntax.{w32}
+use mir.Val.{toZ, ofZ}
 use Rattle.codec.specs.Area.{part}
 use Rattle.codec.specs.Number.{le, bytes, numberAt}
 use Rattle.codec.proofs.Areas.{part-part, part-append-left, part-append-right, part-all}
 use Rattle.codec.proofs.Numbers.{length-bytes, le-bytes}
-use Rattle.form.specs.declared.Form.the-variants.{New}
+use Rattle.form.specs.declared.Form.{Form}
+use Rattle.form.specs.declared.Form.the-variants.{Old, New}
+use Rattle.form.specs.Forms.{pointerWidth}
 use Rattle.skiplist.specs.declared.Pointer.{Pointer}
 use Rattle.skiplist.specs.PointerBytes.{pointersBytes, pointersAt}
-use Rattle.skiplist.proofs.Pointers.{PointerFits, pointers-decoded, length-pointers}
+use Rattle.skiplist.proofs.Pointers.{PointerFits, pointers-decoded}
 use Rattle.segment.proofs.Fields.{joined, startOf, field-read}
+use Rattle.store.specs.declared.OldState.{OldState}
 use Rattle.store.specs.declared.State.{State}
 use Rattle.state_bytes.specs.Signed.{signed, unsigned, sideBySide, loadBytes, loadsBytes, loadAt, loadsAt}
-use Rattle.state_bytes.specs.StateBytes.{stateBytes, stateIn}
-use Rattle.state_bytes.proofs.Signs.{signed-unsigned, unsigned-fits}
-use Rattle.state_bytes.proofs.Writing.{length-load, length-loads}
+use Rattle.state_bytes.specs.StateBytes.{liveWidth, headsFrom, loadsFrom, areaLength}
+use Rattle.state_bytes.specs.StateBytes.{bytesIn, stateBytes, oldStateBytes, stateAs, stateIn, oldStateIn}
+use Rattle.state_bytes.proofs.Signs.{read-back, signed-unsigned, unsigned-fits}
+use Rattle.state_bytes.proofs.Writing.{length-load, length-loads, heads-length}
 
 -- a state whose every field is what stands in the area
-pub read : (b : List ℕ) (s : State) → s .oldest ≡ numberAt b 0 4 → s .current ≡ numberAt b 4 4 → s .count ≡ numberAt b 8 2
-    → s .buckets ≡ numberAt b 10 1 → s .next ≡ numberAt b 11 8 → s .heads ≡ pointersAt New b 19 → s .loads ≡ loadsAt b 75 13
-    → s .page ≡ part b 127 512 → s .bloom ≡ part b 639 128 → s .start ≡ numberAt b 767 8 → s .low ≡ loadAt b 775
-    → s .high ≡ loadAt b 779 → s ≡ stateIn b
-unfolding stateIn
-read b s e1 e2 e3 e4 e5 e6 e7 e8 e9 e10 e11 e12 =
+pub read : (f : Form) (b : List ℕ) (s : State) → s .oldest ≡ numberAt b 0 4 → s .current ≡ numberAt b 4 4 → s .count ≡ numberAt b 8 2
+    → s .buckets ≡ numberAt b 10 1 → s .next ≡ numberAt b 11 8 → s .heads ≡ pointersAt f b (headsFrom f)
+    → s .loads ≡ loadsAt b (loadsFrom f) 13 → s .page ≡ part b (loadsFrom f + 52) 512 → s .bloom ≡ part b (loadsFrom f + 564) 128
+    → s .start ≡ numberAt b (loadsFrom f + 692) 8 → s .low ≡ loadAt b (loadsFrom f + 700) → s .high ≡ loadAt b (loadsFrom f + 704)
+    → s ≡ stateAs f b
+unfolding stateAs
+read f b s e1 e2 e3 e4 e5 e6 e7 e8 e9 e10 e11 e12 =
     rw (← e1, ← e2, ← e3, ← e4, ← e5, ← e6, ← e7, ← e8, ← e9, ← e10, ← e11, ← e12)
 
+pub old-read : (b : List ℕ) (s : State) (live : ℕ) → s ≡ stateAs Old b → live ≡ numberAt b 19 8
+    → _≡_ {A = OldState} (record { state = s; live = live }) (oldStateIn b)
+unfolding oldStateIn
+old-read b s live e f = rw (e, f)
+
 -- ---- loads side by side
+
+-- load i of those from `at`, before the others
+pub next-load : (s : List ℕ) (at i n to : ℕ) {z : ℤ} {zs : List ℤ} → at + 4 * i ≡ to → mag z < 2 ^ 31 → z ≡ loadAt s to
+    → zs ≡ loadsAt s (at + 4 * suc i) n → toZ w32 (ofZ w32 z) ∷ zs ≡ loadsAt s (at + 4 * i) (suc n)
+unfolding loadsAt
+next-load s at i n to {z} p h e q =
+    let r : at + 4 * suc i ≡ at + 4 * i + 4 = omega arith in
+    ap₂ _∷_ (read-back z _ h (e ∙ ap (loadAt s) (sym p))) (q ∙ ap (λ (k : ℕ). loadsAt s k n) r)
 
 load-read : (s : List ℕ) (at : ℕ) (z : ℤ) → mag z < 2 ^ 31 → part s at 4 ≡ loadBytes z → loadAt s at ≡ z
 unfolding loadAt loadBytes
@@ -60,15 +80,15 @@ loads-read s at (z ∷ zs) f h e =
 
 -- ---- the whole state
 
--- every field fits its bytes, as the type of the state says
-pub record Held (s : State) (a b c d : Pointer) : Type 0 where
+-- every field fits its bytes, as the type of the state says; in form 0 a head's serial is 0
+pub record Held (f : Form) (s : State) (a b c d : Pointer) : Type 0 where
   pub oldest : s .oldest < 256 ^ 4
   pub current : s .current < 256 ^ 4
   pub count : s .count < 256 ^ 2
   pub buckets : s .buckets < 256 ^ 1
   pub next : s .next < 256 ^ 8
   pub heads : s .heads ≡ a ∷ b ∷ c ∷ d ∷ []
-  pub head-fits : PointerFits New a × PointerFits New b × PointerFits New c × PointerFits New d
+  pub head-fits : PointerFits f a × PointerFits f b × PointerFits f c × PointerFits f d
   pub loads : length (s .loads) ≡ 13
   pub load-fits : (i : ℕ) → mag (getD (s .loads) i (pos 0)) < 2 ^ 31
   pub page : length (s .page) ≡ 512
@@ -77,58 +97,94 @@ pub record Held (s : State) (a b c d : Pointer) : Type 0 where
   pub low : mag (s .low) < 2 ^ 31
   pub high : mag (s .high) < 2 ^ 31
 
-module _ (s : State) (a b c d : Pointer) (h : Held s a b c d) where
+module _ (f : Form) (live : List ℕ) (wide : length live ≡ liveWidth f) (s : State) (a b c d : Pointer) (h : Held f s a b c d) where
   abbrev fields : List (List ℕ)
   fields =
-      bytes 4 (s .oldest) ∷ bytes 4 (s .current) ∷ bytes 2 (s .count) ∷ bytes 1 (s .buckets) ∷ bytes 8 (s .next)
-      ∷ pointersBytes New (s .heads) ∷ loadsBytes (s .loads) ∷ s .page ∷ s .bloom ∷ bytes 8 (s .start) ∷ loadBytes (s .low)
+      bytes 4 (s .oldest) ∷ bytes 4 (s .current) ∷ bytes 2 (s .count) ∷ bytes 1 (s .buckets) ∷ bytes 8 (s .next) ∷ live
+      ∷ pointersBytes f (s .heads) ∷ loadsBytes (s .loads) ∷ s .page ∷ s .bloom ∷ bytes 8 (s .start) ∷ loadBytes (s .low)
       ∷ loadBytes (s .high) ∷ []
 
-  side : joined fields [] ≡ stateBytes s
-  unfolding stateBytes
+  abbrev whole : List ℕ
+  whole = bytesIn f live s
+
+  side : joined fields [] ≡ whole
+  unfolding bytesIn
   side = simp (append-assoc, append-nil)
 
   -- field k stands at `at`, n bytes long
-  stands : (k at n : ℕ) (f : List ℕ) → k < length fields → getD fields k [] ≡ f → startOf fields k ≡ at → length f ≡ n
-      → part (stateBytes s) at n ≡ f
-  stands k at n f l e p w =
+  stands : (k at n : ℕ) (p : List ℕ) → k < length fields → getD fields k [] ≡ p → startOf fields k ≡ at → length p ≡ n
+      → part whole at n ≡ p
+  stands k at n p l e q w =
       ap (λ b. part b at n) (sym side)
-      ∙ rw (← p, ← w, ← e) (field-read fields [] k l)
+      ∙ rw (← q, ← w, ← e) (field-read fields [] k l)
 
   number : (k at n v : ℕ) → k < length fields → getD fields k [] ≡ bytes n v → startOf fields k ≡ at → v < 256 ^ n
-      → numberAt (stateBytes s) at n ≡ v
+      → numberAt whole at n ≡ v
   number k at n v l e p f = ap le (stands k at n (bytes n v) l e p (length-bytes n v)) ∙ le-bytes n v f
 
-  heads-bytes : length (pointersBytes New (s .heads)) ≡ 56
-  heads-bytes = length-pointers New (s .heads) ∙ omega (arith, ap length (h .heads))
+  heads-bytes : length (pointersBytes f (s .heads)) ≡ 4 * pointerWidth f
+  heads-bytes = heads-length f (s .heads) (ap length (h .heads))
 
   loads-bytes : length (loadsBytes (s .loads)) ≡ 52
   loads-bytes = length-loads (s .loads) ∙ omega (arith, h .loads)
 
-  pub state-length : length (stateBytes s) ≡ 783
-  unfolding stateBytes
-  state-length = simp (length-append, length-bytes, length-load, heads-bytes, loads-bytes, h .page, h .bloom)
+  pub bytes-length : length whole ≡ areaLength f
+  unfolding bytesIn
+  bytes-length =
+      simp (length-append, length-bytes, length-load, heads-bytes, loads-bytes, h .page, h .bloom, wide) (omega arith)
 
-  pub state-back : stateIn (stateBytes s) ≡ s
+  pub live-back : part whole 19 (liveWidth f) ≡ live
+  unfolding bytes
+  live-back = stands 5 19 (liveWidth f) live (omega arith) refl refl wide
+
+  pub fields-back : stateAs f whole ≡ s
   unfolding bytes loadBytes
-  state-back =
+  fields-back =
+      let lv = wide in
       let lh = heads-bytes in
       let ll = loads-bytes in
       let lp = h .page in
       let lb = h .bloom in
-      sym (read (stateBytes s) s
+      let at : ℕ = loadsFrom f in
+      sym (read f whole s
       (sym (number 0 0 4 (s .oldest) (omega arith) refl refl (h .oldest)))
       (sym (number 1 4 4 (s .current) (omega arith) refl refl (h .current)))
       (sym (number 2 8 2 (s .count) (omega arith) refl refl (h .count)))
       (sym (number 3 10 1 (s .buckets) (omega arith) refl refl (h .buckets)))
       (sym (number 4 11 8 (s .next) (omega arith) refl refl (h .next)))
-      (h .heads ∙ sym (pointers-decoded New (stateBytes s) 19 a b c d (h .head-fits .0) (h .head-fits .1) (h .head-fits .2) (h .head-fits .3)
-      (omega (arith, state-length)) (stands 5 19 56 (pointersBytes New (s .heads)) (omega arith) refl refl lh ∙ ap (pointersBytes New) (h .heads))))
-      (sym (ap (loadsAt (stateBytes s) 75) (sym (h .loads)) ∙ loads-read (stateBytes s) 75 (s .loads) (h .load-fits)
-      (omega (arith, state-length, h .loads))
-      (stands 6 75 (4 * length (s .loads)) (loadsBytes (s .loads)) (omega arith) refl (omega arith) (length-loads (s .loads)))))
-      (sym (stands 7 127 512 (s .page) (omega arith) refl (omega arith) (h .page)))
-      (sym (stands 8 639 128 (s .bloom) (omega arith) refl (omega arith) (h .bloom)))
-      (sym (number 9 767 8 (s .start) (omega arith) refl (omega arith) (h .start)))
-      (sym (load-read (stateBytes s) 775 (s .low) (h .low) (stands 10 775 4 (loadBytes (s .low)) (omega arith) refl (omega arith) (length-load (s .low)))))
-      (sym (load-read (stateBytes s) 779 (s .high) (h .high) (stands 11 779 4 (loadBytes (s .high)) (omega arith) refl (omega arith) (length-load (s .high))))))
+      (h .heads ∙ sym (pointers-decoded f whole (headsFrom f) a b c d (h .head-fits .0) (h .head-fits .1) (h .head-fits .2) (h .head-fits .3)
+      (omega (arith, bytes-length))
+      (stands 6 (headsFrom f) (4 * pointerWidth f) (pointersBytes f (s .heads)) (omega arith) refl (omega arith) lh
+      ∙ ap (pointersBytes f) (h .heads))))
+      (sym (ap (loadsAt whole at) (sym (h .loads)) ∙ loads-read whole at (s .loads) (h .load-fits)
+      (omega (arith, bytes-length, h .loads))
+      (stands 7 at (4 * length (s .loads)) (loadsBytes (s .loads)) (omega arith) refl (omega arith) (length-loads (s .loads)))))
+      (sym (stands 8 (at + 52) 512 (s .page) (omega arith) refl (omega arith) (h .page)))
+      (sym (stands 9 (at + 564) 128 (s .bloom) (omega arith) refl (omega arith) (h .bloom)))
+      (sym (number 10 (at + 692) 8 (s .start) (omega arith) refl (omega arith) (h .start)))
+      (sym (load-read whole (at + 700) (s .low) (h .low)
+      (stands 11 (at + 700) 4 (loadBytes (s .low)) (omega arith) refl (omega arith) (length-load (s .low)))))
+      (sym (load-read whole (at + 704) (s .high) (h .high)
+      (stands 12 (at + 704) 4 (loadBytes (s .high)) (omega arith) refl (omega arith) (length-load (s .high))))))
+
+module _ (s : State) (a b c d : Pointer) (h : Held New s a b c d) where
+  pub state-length : length (stateBytes s) ≡ 783
+  unfolding stateBytes
+  state-length = bytes-length New [] refl s a b c d h
+
+  pub state-back : stateIn (stateBytes s) ≡ s
+  unfolding stateBytes stateIn
+  state-back = fields-back New [] refl s a b c d h
+
+module _ (o : OldState) (a b c d : Pointer) (h : Held Old (o .state) a b c d) where
+  pub old-state-length : length (oldStateBytes o) ≡ 775
+  unfolding oldStateBytes
+  old-state-length = bytes-length Old (bytes 8 (o .live)) (length-bytes 8 (o .live)) (o .state) a b c d h
+
+  pub old-state-back : o .live < 256 ^ 8 → oldStateIn (oldStateBytes o) ≡ o
+  unfolding oldStateBytes oldStateIn
+  old-state-back l =
+      let w = length-bytes 8 (o .live) in
+      let live = bytes 8 (o .live) in
+      let e = live-back Old live w (o .state) a b c d h in
+      rw (fields-back Old live w (o .state) a b c d h, e, le-bytes 8 (o .live) l)

@@ -1,7 +1,6 @@
 -- Signed numbers and their 32 bits determine each other: −1 less a number is its complement. Assumes nothing.
-use mathlib.Core.Path.{_≡_, refl, sym, ap, ap₂, _∙_}
+use mathlib.Core.Path.{_≡_, refl, sym, ap, _∙_}
 use mathlib.Core.Bool.{Bool, true, false, cond, false≢true}
-use mathlib.Core.List.{List, _∷_}
 use Prim.Native.Nat.{ℕ, zero, suc, _+_, _-_, _^_, _≤_, _<_}
 use native.Mathlib.Omega.{arith}
 use lib.Dec.{T, ltb, leb·zero}
@@ -77,7 +76,3 @@ pub unsigned-fits : (z : ℤ) → mag z < 2 ^ 31 → unsigned z < 256 ^ 4
 unfolding unsigned
 unsigned-fits (pos n) h = omega arith
 unsigned-fits (negsuc n) h = omega arith
-
--- one number more of a list, read back from its bits
-pub next : {z e : ℤ} {zs es : List ℤ} → mag z < 2 ^ 31 → z ≡ e → zs ≡ es → toZ w32 (ofZ w32 z) ∷ zs ≡ e ∷ es
-next {z} {e} h p q = ap₂ _∷_ (read-back z e h p) q

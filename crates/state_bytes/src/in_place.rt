@@ -67,13 +67,13 @@ pub fn put_lift(b: &mut [u8], time: u64, code: u32, load: i32, note: [u8; 20], b
 {
     let n = codec::get_u16(b, crate::COUNT_AT);
     let heads = skiplist::pointers_at(b, crate::HEADS_AT, Form::New);
-    let old = crate::loads_at(b);
+    let old = crate::loads_at(b, crate::LOADS_AT);
     let loads = bounds::pushed(old, n, load);
-    let before = crate::bloom_at(b);
+    let before = crate::bloom_at(b, crate::BLOOM_AT);
     let section = bloom::note(before, code);
     let c = counters_after(b, time, buckets);
     let s = span_after(b, time, load);
     let at = crate::PAGE_AT + (n as usize) % 16 * 32;
     put_record(b, at, time, code, note);
-    crate::put_around(b, c, heads, loads, section, s);
+    crate::put_around(b, Form::New, c, heads, loads, section, s);
 }

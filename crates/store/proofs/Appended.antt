@@ -28,7 +28,7 @@ use Rattle.store.proofs.Outcomes.{stands}
 
 -- ---- grounds 1 to 8
 
-module _ (s : State) (nand nor slots time : ℕ) (load : ℤ) (n : ℕ) (judged : n ≡ boundsGround s nand nor slots) where
+module _ (s : State) (nand nor slots time : ℕ) (load : ℤ) (n : ℕ) (judged : n ≡ boundsGround New s 0 nand nor slots) where
   pub entry-bounds : (n ≡ 0 → ⊥) → n ≡ entryGround s nand nor slots time load
   unfolding entryGround boundsGround
   entry-bounds h =
@@ -43,7 +43,7 @@ module _ (s : State) (nand nor slots time : ℕ) (load : ℤ) (n : ℕ) (judged 
 
 -- where none of them holds
 pub record Entered (s : State) (nand nor slots time : ℕ) (load : ℤ) : Type 0 where
-  pub bounds : boundsGround s nand nor slots ≡ 0
+  pub bounds : boundsGround New s 0 nand nor slots ≡ 0
   pub lift : liftGround time load (s .next) (s .current) 0 ≡ 0
 
 pub entered : (s : State) (nand nor slots time : ℕ) (load : ℤ) → entryGround s nand nor slots time load ≡ 0

@@ -31,7 +31,7 @@ use Rattle.store.proofs.Grounds.{standing-in}
 
 -- ---- grounds 1 to 6
 
-module _ (s : State) (nand nor slots t1 t2 : ℕ) (k1 k2 : ℤ) (n : ℕ) (judged : n ≡ boundsGround s nand nor slots) where
+module _ (s : State) (nand nor slots t1 t2 : ℕ) (k1 k2 : ℤ) (n : ℕ) (judged : n ≡ boundsGround New s 0 nand nor slots) where
   pub asked-bounds : (n ≡ 0 → ⊥) → n ≡ askedGround s nand nor slots t1 t2 k1 k2
   unfolding askedGround boundsGround
   asked-bounds h =

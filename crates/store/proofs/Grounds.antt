@@ -36,34 +36,34 @@ four-heads slots (w ∷ x ∷ y ∷ []) e a b c d l p q r s = absurd (omega arit
 four-heads slots (w ∷ x ∷ y ∷ z ∷ []) e a b c d l p q r s = rw (p, q, r, s, and-true (inSlots z slots))
 four-heads slots (w ∷ x ∷ y ∷ z ∷ v ∷ ps) e a b c d l p q r s = absurd (omega arith)
 
-pub six-tests : (s : State) (slots : ℕ) (a b c d e f : Bool) → a ≡ serialsOk (s .oldest) (s .current) (s .count) slots
-    → b ≡ countsOk (s .current) (s .count) (s .buckets) → c ≡ timesOk New (s .current) (s .count) (s .next) 0 (s .start)
+pub six-tests : (v : Form) (s : State) (live slots : ℕ) (a b c d e f : Bool) → a ≡ serialsOk (s .oldest) (s .current) (s .count) slots
+    → b ≡ countsOk (s .current) (s .count) (s .buckets) → c ≡ timesOk v (s .current) (s .count) (s .next) live (s .start)
     → d ≡ spanOk (s .count) (s .low) (s .high) → e ≡ loadsOk (s .loads) → f ≡ headsOk (s .heads) slots
-    → (a && (b && (c && (d && (e && f))))) ≡ withinBounds New s 0 slots
+    → (a && (b && (c && (d && (e && f))))) ≡ withinBounds v s live slots
 unfolding withinBounds
-six-tests s slots a b c d e f p q r t u v = rw (p, q, r, t, u, v)
+six-tests v s live slots a b c d e f p q r t u w = rw (p, q, r, t, u, w)
 
 -- ---- grounds 1 to 3
 
-module _ (s : State) (nand nor slots n : ℕ) (judged : n ≡ formatGround nand nor slots) where
-  pub bounds-chips : (n ≡ 0 → ⊥) → n ≡ boundsGround s nand nor slots
+module _ (f : Form) (s : State) (live nand nor slots n : ℕ) (judged : n ≡ formatGround nand nor slots) where
+  pub bounds-chips : (n ≡ 0 → ⊥) → n ≡ boundsGround f s live nand nor slots
   unfolding boundsGround formatGround
   bounds-chips h = go (nandBad nand slots) (norBad nor) judged
     where
-      go : (a b : Bool) → n ≡ ground 1 a (ground 2 b 0) → n ≡ ground 1 a (ground 2 b (ground 3 (not (withinBounds New s 0 slots)) 0))
+      go : (a b : Bool) → n ≡ ground 1 a (ground 2 b 0) → n ≡ ground 1 a (ground 2 b (ground 3 (not (withinBounds f s live slots)) 0))
       go true b e = e
       go false true e = e
       go false false e = absurd (h e)
 
-  pub bounds-state : (r : Bool) → n ≡ 0 → r ≡ withinBounds New s 0 slots → ground 3 (not r) 0 ≡ boundsGround s nand nor slots
+  pub bounds-state : (r : Bool) → n ≡ 0 → r ≡ withinBounds f s live slots → ground 3 (not r) 0 ≡ boundsGround f s live nand nor slots
   unfolding boundsGround formatGround
   bounds-state r z e = go (nandBad nand slots) (norBad nor) judged
     where
       go : (a b : Bool) → n ≡ ground 1 a (ground 2 b 0)
-          → ground 3 (not r) 0 ≡ ground 1 a (ground 2 b (ground 3 (not (withinBounds New s 0 slots)) 0))
-      go true b f = absurd (omega arith)
-      go false true f = absurd (omega arith)
-      go false false f = rw e
+          → ground 3 (not r) 0 ≡ ground 1 a (ground 2 b (ground 3 (not (withinBounds f s live slots)) 0))
+      go true b d = absurd (omega arith)
+      go false true d = absurd (omega arith)
+      go false false d = rw e
 
 -- ---- where none of them holds
 
@@ -112,6 +112,6 @@ standing-in f s live nand nor slots e =
     (Within.ground-not 2 m (ground 3 bad 0) (λ z. omega arith) e2))
     (not-false (withinBounds f s live slots) (Within.ground-not 3 bad 0 (λ z. omega arith) e3))
 
-pub standing : (s : State) (nand nor slots : ℕ) → boundsGround s nand nor slots ≡ 0 → Standing s nand nor slots
+pub standing : (s : State) (nand nor slots : ℕ) → boundsGround New s 0 nand nor slots ≡ 0 → Standing s nand nor slots
 unfolding boundsGround
 standing s nand nor slots e = standing-in New s 0 nand nor slots e

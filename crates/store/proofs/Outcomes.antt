@@ -30,7 +30,7 @@ module _ (n g : ℕ) (w after : World) (e : n ≡ g) where
 
 -- ---- grounds 1 to 3, and those after them
 
-module _ (nand nor : List ℕ) (s : State) (slots n : ℕ) (judged : n ≡ boundsGround s (length nand) (length nor) slots) (later : ℕ)
+module _ (nand nor : List ℕ) (s : State) (slots n : ℕ) (judged : n ≡ boundsGround New s 0 (length nand) (length nor) slots) (later : ℕ)
   where
     pub stands-not : (n ≡ 0 → ⊥) → n ≡ stateGround (world nand nor s) slots later
     unfolding boundsGround
@@ -58,7 +58,7 @@ module _ (nand nor : List ℕ) (slots n : ℕ) (s : State) (judged : n ≡ forma
 
 -- ---- close
 
-module _ (nand nor : List ℕ) (s : State) (slots n : ℕ) (judged : n ≡ boundsGround s (length nand) (length nor) slots) where
+module _ (nand nor : List ℕ) (s : State) (slots n : ℕ) (judged : n ≡ boundsGround New s 0 (length nand) (length nor) slots) where
   abbrev w : World
   w = world nand nor s
 

@@ -70,9 +70,9 @@ stateGround w slots rest =
     (ground 3 (not (withinBounds (w .form) (w .state) (w .live) slots)) rest))
 
 -- these alone, by the chips' lengths
-unfoldable pub boundsGround : State → ℕ → ℕ → ℕ → ℕ
-boundsGround s nandLength norLength slots =
-    ground 1 (nandBad nandLength slots) (ground 2 (norBad norLength) (ground 3 (not (withinBounds New s 0 slots)) 0))
+unfoldable pub boundsGround : Form → State → ℕ → ℕ → ℕ → ℕ → ℕ
+boundsGround f s live nandLength norLength slots =
+    ground 1 (nandBad nandLength slots) (ground 2 (norBad norLength) (ground 3 (not (withinBounds f s live slots)) 0))
 
 -- ---- close
 

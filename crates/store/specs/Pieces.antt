@@ -30,7 +30,7 @@ pub record Suits (s : State) (p : Plan) : Type 0 where
 
 -- what holds of an append that no ground refuses, and of the code's plan for it
 pub record Accepted (w : World) (slots time : ℕ) (load : ℤ) (p : Plan) : Type 0 where
-  pub bounds : boundsGround (w .state) (length (w .nand)) (length (w .nor)) slots ≡ 0
+  pub bounds : boundsGround New (w .state) 0 (length (w .nand)) (length (w .nor)) slots ≡ 0
   pub suits : Suits (w .state) p
   pub load-ok : loadOk load ≡ true
   pub is : meaning p ≡ planOf w load

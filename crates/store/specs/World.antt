@@ -24,6 +24,7 @@ use Rattle.segment.specs.Pages.{closeProgrammed}
 use Rattle.tree.specs.Plan.{Plan}
 use Rattle.tree.specs.Writes.{writesOf, allWritten, bucketsAfter}
 use Rattle.bounds.specs.Lifts.{noLoads, pushed, lowWith, highWith}
+use Rattle.store.specs.declared.OldState.{OldState}
 use Rattle.store.specs.declared.State.{State}
 
 -- a store of either form: both chips, the state and, in form 0, the oldest live time, which is 0 in form 1
@@ -37,6 +38,10 @@ pub record World : Type 0 where
 -- a store of form 1, which the calls are about
 abbrev pub world : List ℕ → List ℕ → State → World
 world nand nor s = record { form = New; nand = nand; nor = nor; state = s; live = 0 }
+
+-- a store of form 0, which a machine in the field holds
+abbrev pub oldWorld : List ℕ → List ℕ → OldState → World
+oldWorld nand nor o = record { form = Old; nand = nand; nor = nor; state = o .state; live = o .live }
 
 -- an oldest live time, which only form 0 has
 abbrev pub liveTime : Form → ℕ → ℕ

@@ -3,6 +3,7 @@
 use crate::Answer;
 use crate::State;
 use crate::parts;
+use form::Form;
 use grow::Plan;
 ghost use mathlib.Core.Path.{_≡_};
 ghost use mathlib.Core.Bool.{true, false, cond};
@@ -13,6 +14,7 @@ ghost use lib.ListN.{length};
 ghost use Rattle.flash.specs.Chip.{erasedPage, programmed};
 ghost use Rattle.lift.specs.Limits.{loadOk, stored};
 ghost use Rattle.bloom.specs.Bloom.{emptySection};
+ghost use Rattle.form.specs.declared.Form.the-variants.{New};
 ghost use Rattle.tree.specs.Plan.{noRoom, isDamaged, isNoRoom};
 ghost use Rattle.grow.specs.Meaning.{meaning, Fitting};
 ghost use Rattle.bounds.specs.Bounds.{loadsOk};
@@ -32,7 +34,7 @@ impl State {
     fn entry_ground(self, nand: usize, nor: usize, slots: u64, time: u64, load: i32) -> u8
         ensures { λ r. ⌜ r ≡ entryGround self nand nor slots time load ⌝ }
     {
-        let n = self.ground(nand, nor, slots);
+        let n = self.ground(Form::New, 0, nand, nor, slots);
         if n != 0 {
             return n;
         }
@@ -61,7 +63,7 @@ impl State {
 
     // Grounds 10 and 11 of an append that closes first: the close erases NOR, so there is no damage.
     fn blocked_closing(self, nand: &[u8], slots: u64) -> u8
-        requires { ⌜ boundsGround self (length (now nand)) 6144 slots ≡ 0 ⌝ }
+        requires { ⌜ boundsGround New self 0 (length (now nand)) 6144 slots ≡ 0 ⌝ }
         ensures { λ r. ⌜ ((nor : List ℕ) (load : ℤ) → length nor ≡ 6144 → r
             ≡ laterGround (world (now (nand .entry)) nor self) slots load noRoom) ⌝ }
     {
@@ -83,7 +85,7 @@ impl State {
 
     // Grounds 10 and 11 of an append into the open segment as it is.
     fn blocked_put(self, nand: &[u8], nor: &[u8], slots: u64, code: u32, p: Plan) -> u8
-        requires { ⌜ (boundsGround self (length (now nand)) (length (now nor)) slots ≡ 0) × Suits self p ⌝ }
+        requires { ⌜ (boundsGround New self 0 (length (now nand)) (length (now nor)) slots ≡ 0) × Suits self p ⌝ }
         requires { ⌜ (isDamaged (meaning p) ≡ false) × (isNoRoom (meaning p) ≡ false) ⌝ }
         ensures { λ r. ⌜ ((load : ℤ) → code ≡ stored load → r
             ≡ laterGround (world (now (nand .entry)) (now (nor .entry)) self) slots load (meaning p)) ⌝ }
@@ -100,7 +102,7 @@ impl State {
 
     // Grounds 10 and 11.
     fn blocked(self, nand: &[u8], nor: &[u8], slots: u64, code: u32, p: Plan) -> u8
-        requires { ⌜ (boundsGround self (length (now nand)) (length (now nor)) slots ≡ 0) × Suits self p ⌝ }
+        requires { ⌜ (boundsGround New self 0 (length (now nand)) (length (now nor)) slots ≡ 0) × Suits self p ⌝ }
         ensures { λ r. ⌜ ((load : ℤ) → code ≡ stored load → r
             ≡ laterGround (world (now (nand .entry)) (now (nor .entry)) self) slots load (meaning p)) ⌝ }
     {
@@ -115,7 +117,7 @@ impl State {
 
     // A close if it is due.
     fn room(self, nand: &mut [u8], nor: &mut [u8], slots: u64, p: Plan) -> State
-        requires { ⌜ (boundsGround self (length (now nand)) (length (now nor)) slots ≡ 0) × Suits self p ⌝ }
+        requires { ⌜ (boundsGround New self 0 (length (now nand)) (length (now nor)) slots ≡ 0) × Suits self p ⌝ }
         ensures { λ r. ⌜ world (now (nand .exit)) (now (nor .exit)) r
             ≡ roomWorld (world (now (nand .entry)) (now (nor .entry)) self) slots (meaning p) ⌝ }
     {
@@ -249,7 +251,7 @@ impl State {
         note: [u8; 20],
         p: Plan,
     ) -> State
-        requires { ⌜ (boundsGround self (length (now nand)) (length (now nor)) slots ≡ 0) × Suits self p ⌝ }
+        requires { ⌜ (boundsGround New self 0 (length (now nand)) (length (now nor)) slots ≡ 0) × Suits self p ⌝ }
         requires { ⌜ loadOk load ≡ true ⌝ }
         ensures { λ r. ⌜ world (now (nand .exit)) (now (nor .exit)) r
             ≡ Pieces.carriedOut (world (now (nand .entry)) (now (nor .entry)) self) slots time load note (meaning p) ⌝ }

@@ -36,6 +36,13 @@ pub struct State {
     pub high: i32,
 }
 
+// A state of form 0: the fields that both forms have, and the oldest live time. Its heads have no serials; what stands there is not
+// looked at.
+pub struct OldState {
+    pub state: State,
+    pub live: u64,
+}
+
 // A call's number, and the next state: the state as it was where the number is not 0.
 pub struct Answer {
     pub number: u8,
@@ -53,7 +60,7 @@ fn heads_ok(heads: [Pointer; 4], slots: u64) -> bool
 }
 
 impl State {
-    fn new() -> State
+    pub fn new() -> State
         ensures { λ r. ⌜ r ≡ formatted ⌝ }
     {
         let heads = skiplist::no_heads();
@@ -77,29 +84,29 @@ impl State {
     }
 
     // Ground 3.
-    fn within_bounds(self, slots: u64) -> bool
-        ensures { λ r. ⌜ r ≡ withinBounds New self 0 slots ⌝ }
+    fn within_bounds(self, form: Form, live: u64, slots: u64) -> bool
+        ensures { λ r. ⌜ r ≡ withinBounds form self live slots ⌝ }
     {
         let heads = self.heads;
         let loads = self.loads;
         let a = bounds::serials_ok(self.oldest, self.current, self.count, slots);
         let b = bounds::counts_ok(self.current, self.count, self.buckets);
-        let c = bounds::times_ok(self.current, self.count, self.next, self.start);
+        let c = bounds::times_ok(form, self.current, self.count, self.next, live, self.start);
         let d = bounds::span_ok(self.count, self.low, self.high);
         let e = bounds::loads_ok(loads);
         let f = heads_ok(heads, slots);
         a & (b & (c & (d & (e & f))))
     }
 
-    // Grounds 1 to 3.
-    fn ground(self, nand: usize, nor: usize, slots: u64) -> u8
-        ensures { λ r. ⌜ r ≡ boundsGround self nand nor slots ⌝ }
+    // Grounds 1 to 3, of a state of either form.
+    pub fn ground(self, form: Form, live: u64, nand: usize, nor: usize, slots: u64) -> u8
+        ensures { λ r. ⌜ r ≡ boundsGround form self live nand nor slots ⌝ }
     {
         let n = bounds::chips_ground(nand, nor, slots);
         if n != 0 {
             return n;
         }
-        if !self.within_bounds(slots) {
+        if !self.within_bounds(form, live, slots) {
             return 3;
         }
         0
@@ -157,7 +164,7 @@ impl State {
 
     // The open segment is closed.
     fn closed(self, nand: &mut [u8], nor: &mut [u8], slots: u64) -> State
-        requires { ⌜ (boundsGround self (length (now nand)) (length (now nor)) slots ≡ 0) × (1 ≤ self .count) ⌝ }
+        requires { ⌜ (boundsGround New self 0 (length (now nand)) (length (now nor)) slots ≡ 0) × (1 ≤ self .count) ⌝ }
         ensures { λ r. ⌜ world (now (nand .exit)) (now (nor .exit)) r
             ≡ closeWorld (world (now (nand .entry)) (now (nor .entry)) self) slots ⌝ }
     {
@@ -204,7 +211,7 @@ impl State {
         ensures { λ r. ⌜ answered (r .number) (now (nand .exit)) (now (nor .exit)) (r .state)
             ≡ closeOutcome (world (now (nand .entry)) (now (nor .entry)) self) slots ⌝ }
     {
-        let n = self.ground(nand.len(), nor.len(), slots);
+        let n = self.ground(Form::New, 0, nand.len(), nor.len(), slots);
         if n != 0 {
             return Answer {
                 number: n,
@@ -235,7 +242,7 @@ impl State {
         ensures { λ r. ⌜ answered (r .number) (now (nand .exit)) (now (nor .entry)) (r .state)
             ≡ dropOutcome (world (now (nand .entry)) (now (nor .entry)) self) slots ⌝ }
     {
-        let n = self.ground(nand.len(), nor.len(), slots);
+        let n = self.ground(Form::New, 0, nand.len(), nor.len(), slots);
         if n != 0 {
             return Answer {
                 number: n,

@@ -1,5 +1,6 @@
 // Search and tally (document 01, "Search", "Plates"): their grounds in checking order, then what the chips hold.
 use crate::State;
+use form::Form;
 use search::Found;
 use search::Tally;
 use walk::Log;
@@ -39,7 +40,7 @@ impl State {
     ) -> u8
         ensures { λ r. ⌜ r ≡ askedGround self nand nor slots t1 t2 k1 k2 ⌝ }
     {
-        let n = self.ground(nand, nor, slots);
+        let n = self.ground(Form::New, 0, nand, nor, slots);
         if n != 0 {
             return n;
         }

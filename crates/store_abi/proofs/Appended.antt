@@ -19,7 +19,7 @@ use Rattle.store.specs.Calls.{planOf, appendGround, appendOutcome}
 use Rattle.store.specs.Pieces.{Accepted, isPlain, carriedOut}
 use Rattle.store.proofs.Grounds.{standing}
 use Rattle.store.proofs.Plain.{append-refused, append-carried, plain, plain-made}
-use Rattle.state_bytes.specs.StateBytes.{stateBytes, stateIn, withLift}
+use Rattle.state_bytes.specs.StateBytes.{stateBytes, stateAs, stateIn, withLift}
 use Rattle.store_abi.specs.Areas.{left, kept, called, appendCalled}
 use Rattle.store_abi.proofs.Leaves.{kept-old, right-length}
 
@@ -32,7 +32,7 @@ pub record Fits (area : List ℕ) (s : State) (nor : ℕ) (p : Plan) : Type 0 wh
 
 pub fits : (area nand nor : List ℕ) (s : State) (slots time : ℕ) (load : ℤ) (p : Plan) → s ≡ stateIn area
     → Accepted (world nand nor s) slots time load p → Fits area s (length nor) p
-unfolding stateIn
+unfolding stateIn stateAs
 fits area nand nor s slots time load p e a =
     let st = standing s (length nand) (length nor) slots (a .bounds) in
     let c : s .count ≡ numberAt area 8 2 = ap (λ (t : State). t .count) e in

@@ -10,11 +10,12 @@ use Rattle.codec.specs.Number.{bytes}
 use Rattle.plate.specs.declared.Lookup.{Lookup}
 use Rattle.search.specs.Answers.{SearchAnswer, TallyAnswer}
 use Rattle.store.specs.declared.State.{State}
+use Rattle.store.specs.World.{World, world}
 use Rattle.store.specs.Calls as Calls
 use Rattle.store.specs.Calls.{Outcome}
 use Rattle.state_bytes.specs.Signed.{sideBySide}
 use Rattle.state_bytes.specs.StateBytes.{stateBytes}
-use Rattle.store_abi.specs.Areas.{left, kept, called, Answered, answered, answeredIn}
+use Rattle.store_abi.specs.Areas.{left, kept, leaves, newBytes, called, Answered, answered, answeredIn}
 
 pub kept-new : (n : ℕ) (new old : List ℕ) → n ≡ 0 → kept n new old ≡ new
 kept-new n new old e = ap (λ (k : ℕ). kept k new old) e
@@ -22,16 +23,39 @@ kept-new n new old e = ap (λ (k : ℕ). kept k new old) e
 pub kept-old : (n : ℕ) (new old : List ℕ) → (n ≡ 0 → ⊥) → kept n new old ≡ old
 kept-old n new old h = ap (λ t. cond t new old) (ne-eqb n 0 h)
 
+-- ---- two lengths
+
+pub first-wrong : (m n p q : ℕ) → (m ≡ n → ⊥) → (eqb m n && eqb p q) ≡ false
+first-wrong m n p q h = ap (λ t. t && eqb p q) (ne-eqb m n h)
+
+pub second-wrong : (m n p q : ℕ) → m ≡ n → (p ≡ q → ⊥) → (eqb m n && eqb p q) ≡ false
+second-wrong m n p q e h = ap₂ _&&_ (eq-eqb m n e) (ne-eqb p q h)
+
+pub both-equal : (m n p q : ℕ) → m ≡ n → p ≡ q → (eqb m n && eqb p q) ≡ true
+both-equal m n p q e f = ap₂ _&&_ (eq-eqb m n e) (eq-eqb p q f)
+
 -- ---- calls that write
+
+module _ (fits : Bool) (toBytes : World → List ℕ) (area nand nor : List ℕ) (o : Outcome) where
+  pub unfitting : fits ≡ false → left 20 area nand nor ≡ leaves fits toBytes area nand nor o
+  unfolding leaves
+  unfitting h = rw h
+
+  pub fitting : (area' : List ℕ) (n r : ℕ) (w : World) → fits ≡ true → r ≡ n → area' ≡ kept n (toBytes w) area
+      → _≡_ {A = Outcome} (record { number = n; world = w }) o
+      → left r area' (w .nand) (w .nor) ≡ leaves fits toBytes area nand nor o
+  unfolding leaves
+  fitting area' n r w h e f g = rw (h, e, f, ← g)
 
 pub wrong-length : (area nand nor : List ℕ) (o : Outcome) → (length area ≡ 783 → ⊥) → left 20 area nand nor ≡ called area nand nor o
 unfolding called
-wrong-length area nand nor o h = rw (ne-eqb (length area) 783 h)
+wrong-length area nand nor o h = unfitting _ _ area nand nor o (ne-eqb (length area) 783 h)
 
 pub right-length : (area nand nor area' nand' nor' : List ℕ) (n r : ℕ) (s : State) (o : Outcome) → length area ≡ 783 → r ≡ n
     → area' ≡ kept n (stateBytes s) area → Calls.answered n nand' nor' s ≡ o → left r area' nand' nor' ≡ called area nand nor o
 unfolding called
-right-length area nand nor area' nand' nor' n r s o h e f g = rw (eq-eqb (length area) 783 h, e, f, ← g)
+right-length area nand nor area' nand' nor' n r s o h e f g =
+    fitting _ newBytes area nand nor o area' n r (world nand' nor' s) (eq-eqb (length area) 783 h) e f g
 
 -- ---- calls that answer, of one or two areas with lengths to keep
 
@@ -42,19 +66,19 @@ pub one-right : (m n : ℕ) (a b : Answered) → m ≡ n → a ≡ cond (eqb m n
 one-right m n a b h = sym (ap (λ t. cond t a b) (eq-eqb m n h))
 
 module _ (area answer : List ℕ) (n : ℕ) (rows : List ℕ) (a : Answered) where
-  pub state-wrong : (length area ≡ 783 → ⊥) → answered 20 rows answer ≡ answeredIn area answer n rows a
+  by : (t : Bool) → (eqb (length area) 783 && eqb (length answer) n) ≡ t
+      → cond t a (answered 20 rows answer) ≡ answeredIn area answer n rows a
   unfolding answeredIn
-  state-wrong h = sym (ap (λ t. cond (t && eqb (length answer) n) a (answered 20 rows answer)) (ne-eqb (length area) 783 h))
+  by t e = sym (ap (λ u. cond u a (answered 20 rows answer)) e)
 
-  both : (t : Bool) → eqb (length answer) n ≡ t → length area ≡ 783 → cond t a (answered 20 rows answer) ≡ answeredIn area answer n rows a
-  unfolding answeredIn
-  both t f e = sym (ap₂ (λ u v. cond (u && v) a (answered 20 rows answer)) (eq-eqb (length area) 783 e) f)
+  pub state-wrong : (length area ≡ 783 → ⊥) → answered 20 rows answer ≡ answeredIn area answer n rows a
+  state-wrong h = by false (first-wrong (length area) 783 (length answer) n h)
 
   pub answer-wrong : length area ≡ 783 → (length answer ≡ n → ⊥) → answered 20 rows answer ≡ answeredIn area answer n rows a
-  answer-wrong e h = both false (ne-eqb (length answer) n h) e
+  answer-wrong e h = by false (second-wrong (length area) 783 (length answer) n e h)
 
   pub both-right : length area ≡ 783 → length answer ≡ n → a ≡ answeredIn area answer n rows a
-  both-right e h = both true (eq-eqb (length answer) n h) e
+  both-right e h = by true (both-equal (length area) 783 (length answer) n e h)
 
 pub search-left : (o : SearchAnswer) (n c : ℕ) (rows answer answer' : List ℕ)
     → _≡_ {A = SearchAnswer} (record { number = n; count = c; area = rows }) o → answer' ≡ kept n (bytes 8 c) answer

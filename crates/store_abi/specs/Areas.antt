@@ -1,6 +1,7 @@
 -- The calls over byte areas and numbers: each equals the store's call on the state that its area holds. An accepted call leaves the
--- next state there, and its other answers in an area of 8-byte numbers; a refusal leaves every area as it was. Assumes nothing.
-use mathlib.Core.Bool.{cond, _&&_}
+-- next state there, and its other answers in an area of 8-byte numbers; a refusal leaves every area as it was. A conversion reads one
+-- store and its state and writes a second one. Assumes nothing.
+use mathlib.Core.Bool.{Bool, cond, _&&_}
 use mathlib.Core.List.{List, []}
 use Prim.Native.Nat.{ℕ}
 use lib.Dec.{eqb}
@@ -11,11 +12,12 @@ use Rattle.plate.specs.Plate.{lookup}
 use Rattle.form.specs.declared.Form.the-variants.{New}
 use Rattle.search.specs.Answers.{SearchAnswer, TallyAnswer}
 use Rattle.store.specs.declared.State.{State}
-use Rattle.store.specs.World.{world}
+use Rattle.store.specs.World.{World, world}
 use Rattle.store.specs.Calls.{Outcome, formatOutcome, appendOutcome, closeOutcome, dropOutcome}
 use Rattle.store.specs.Queries.{searchOutcome, tallyOutcome}
 use Rattle.state_bytes.specs.Signed.{sideBySide}
-use Rattle.state_bytes.specs.StateBytes.{stateBytes, stateIn}
+use Rattle.conversion.specs.Outcome.{forwardOutcome, backwardOutcome}
+use Rattle.state_bytes.specs.StateBytes.{stateBytes, stateIn, oldStateBytes, oldStateIn}
 
 -- what a call that writes leaves: its number, the state's area and both chips
 pub record Left : Type 0 where
@@ -31,12 +33,23 @@ left number state nand nor = record { number = number; state = state; nand = nan
 abbrev pub kept : ℕ → List ℕ → List ℕ → List ℕ
 kept number new old = cond (eqb number 0) new old
 
--- number 20, before everything else: the state's area has another length
+-- number 20, before everything else: an area of a state has another length; else the call's number, and if that is 0 the next state's
+-- bytes
+unfoldable pub leaves : Bool → (World → List ℕ) → List ℕ → List ℕ → List ℕ → Outcome → Left
+leaves fits toBytes area nand nor o =
+    cond fits (left (o .number) (kept (o .number) (toBytes (o .world)) area) (o .world .nand) (o .world .nor)) (left 20 area nand nor)
+
+-- a state's bytes in form 1, and in form 0
+abbrev pub newBytes : World → List ℕ
+newBytes w = stateBytes (w .state)
+
+abbrev pub oldBytes : World → List ℕ
+oldBytes w = oldStateBytes (record { state = w .state; live = w .live })
+
+-- ---- calls on one store
+
 unfoldable pub called : List ℕ → List ℕ → List ℕ → Outcome → Left
-called area nand nor o =
-    cond (eqb (length area) 783)
-    (left (o .number) (kept (o .number) (stateBytes (o .world .state)) area) (o .world .nand) (o .world .nor))
-    (left 20 area nand nor)
+called area nand nor o = leaves (eqb (length area) 783) newBytes area nand nor o
 
 unfoldable pub formatCalled : List ℕ → List ℕ → List ℕ → ℕ → Left
 formatCalled area nand nor slots = called area nand nor (formatOutcome New nand nor slots)
@@ -50,6 +63,22 @@ closeCalled area nand nor slots = called area nand nor (closeOutcome (world nand
 
 unfoldable pub dropCalled : List ℕ → List ℕ → List ℕ → ℕ → Left
 dropCalled area nand nor slots = called area nand nor (dropOutcome (world nand nor (stateIn area)) slots)
+
+-- ---- conversions
+
+-- from form 0, the area `old`, into form 1, the area `area`
+unfoldable pub forwardCalled : List ℕ → List ℕ → List ℕ → ℕ → List ℕ → List ℕ → List ℕ → Left
+forwardCalled old nand nor slots area toNand toNor =
+    leaves (eqb (length old) 775 && eqb (length area) 783) newBytes area toNand toNor
+    (forwardOutcome nand nor (oldStateIn old) slots toNand toNor)
+
+-- and back
+unfoldable pub backwardCalled : List ℕ → List ℕ → List ℕ → ℕ → List ℕ → List ℕ → List ℕ → Left
+backwardCalled area nand nor slots old toNand toNor =
+    leaves (eqb (length area) 783 && eqb (length old) 775) oldBytes old toNand toNor
+    (backwardOutcome nand nor (stateIn area) slots toNand toNor)
+
+-- ---- calls that answer
 
 -- what a call that answers leaves: its number, the result area and the area of its answers
 pub record Answered : Type 0 where

@@ -1,5 +1,6 @@
-// The calls for C and Rust: byte areas and numbers only. The state is a lent area of 783 bytes, the other answers are an area of
-// 8-byte numbers. Each call returns its number; 20 where one of these areas has another length, before everything else.
+// The calls for C and Rust: byte areas and numbers only. The state is a lent area of 783 bytes, 775 in form 0, the other answers are an
+// area of 8-byte numbers. Each call returns its number; 20 where one of these areas has another length, before everything else.
+use conversion::OldAnswer;
 use grow::Plan;
 use store::Answer;
 use store::State;
@@ -14,9 +15,10 @@ ghost use Rattle.lift.specs.Limits.{loadOk, stored};
 ghost use Rattle.tree.specs.Writes.{writesOf, allWritten, bucketsAfter};
 ghost use Rattle.grow.specs.Meaning.{meaning, Fitting};
 ghost use Rattle.state_bytes.specs.Signed.{sideBySide};
-ghost use Rattle.state_bytes.specs.StateBytes.{stateBytes, stateIn, withLift};
+ghost use Rattle.state_bytes.specs.StateBytes.{stateBytes, oldStateBytes, stateIn, withLift};
 ghost use Rattle.store_abi.specs.Areas.{left, kept, answered};
 ghost use Rattle.store_abi.specs.Areas.{formatCalled, appendCalled, closeCalled, dropCalled};
+ghost use Rattle.store_abi.specs.Areas.{forwardCalled, backwardCalled};
 ghost use Rattle.store_abi.specs.Areas.{searchCalled, tallyCalled, plateCalled};
 
 // One of the areas of state and answers has another length.
@@ -37,6 +39,19 @@ fn keep_state(area: &mut [u8], a: Answer) -> u8
         state_bytes::put_state(area, s);
     }
     a.number
+}
+
+// The same for a state of form 0.
+fn keep_old_state(area: &mut [u8], o: OldAnswer) -> u8
+    requires { ⌜ length (now area) ≡ 775 ⌝ }
+    ensures number { λ r. ⌜ r ≡ o .number ⌝ }
+    ensures state { λ _. ⌜ now (area .exit) ≡ kept (o .number) (oldStateBytes (o .state)) (now (area .entry)) ⌝ }
+{
+    if o.number == 0 {
+        let s = o.state;
+        state_bytes::put_old_state(area, s);
+    }
+    o.number
 }
 
 // A number goes into the area of the answer if the call was accepted.
@@ -232,4 +247,56 @@ pub extern "C" fn store_plate(load: i32, answer: &mut [u8]) -> u8
     let p = plate::plate_of(load);
     keep_number(answer, p.number, p.plate as u64);
     p.number
+}
+
+// A store of form 0 into a second lent store of form 1.
+#[no_mangle]
+pub extern "C" fn store_forward(
+    old: &[u8],
+    nand: &[u8],
+    nor: &[u8],
+    slots: u64,
+    state: &mut [u8],
+    to_nand: &mut [u8],
+    to_nor: &mut [u8],
+) -> u8
+    ensures { λ r. ⌜ left r (now (state .exit)) (now («to_nand» .exit)) (now («to_nor» .exit))
+        ≡ forwardCalled (now (old .entry)) (now (nand .entry)) (now (nor .entry)) slots (now (state .entry))
+        (now («to_nand» .entry)) (now («to_nor» .entry)) ⌝ }
+{
+    if old.len() != state_bytes::OLD_STATE_BYTES {
+        return AREA_LENGTH;
+    }
+    if state.len() != state_bytes::STATE_BYTES {
+        return AREA_LENGTH;
+    }
+    let s = state_bytes::get_old_state(old);
+    let a = conversion::forward(s, nand, nor, slots, to_nand, to_nor);
+    keep_state(state, a)
+}
+
+// And back.
+#[no_mangle]
+pub extern "C" fn store_backward(
+    state: &[u8],
+    nand: &[u8],
+    nor: &[u8],
+    slots: u64,
+    old: &mut [u8],
+    to_nand: &mut [u8],
+    to_nor: &mut [u8],
+) -> u8
+    ensures { λ r. ⌜ left r (now (old .exit)) (now («to_nand» .exit)) (now («to_nor» .exit))
+        ≡ backwardCalled (now (state .entry)) (now (nand .entry)) (now (nor .entry)) slots (now (old .entry))
+        (now («to_nand» .entry)) (now («to_nor» .entry)) ⌝ }
+{
+    if state.len() != state_bytes::STATE_BYTES {
+        return AREA_LENGTH;
+    }
+    if old.len() != state_bytes::OLD_STATE_BYTES {
+        return AREA_LENGTH;
+    }
+    let s = state_bytes::get_state(state);
+    let o = conversion::backward(s, nand, nor, slots, to_nand, to_nor);
+    keep_old_state(old, o)
 }

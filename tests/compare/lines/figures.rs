@@ -7,7 +7,7 @@ const PAGE: usize = 5;
 #[derive(Default)]
 pub struct LineFigures {
     pub inputs: u64,
-    numbers: [Numbers; 6],
+    numbers: [Numbers<13>; 6],
     other_forms: u64,
     bytes: u64,
     pub turns: Turns,
@@ -41,7 +41,7 @@ impl LineFigures {
     }
 
     pub fn print(&self) {
-        print_numbers(&LETTERS, &self.numbers);
+        print_numbers(LETTERS.into_iter().zip(&self.numbers));
         println!("lines of another form {}, bytes printed {}", self.other_forms, self.bytes);
         self.turns.print();
     }

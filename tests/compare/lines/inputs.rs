@@ -8,6 +8,7 @@ use model::limits::{GREATEST_LOAD, LAST_TIME, LEAST_LOAD};
 use model::lines::{asked, lines_of, SLOTS};
 use model::paper::PaperLog;
 use script::calls::Window;
+use script::form::Form;
 
 /// A habit gives one line or two, without the last line feed.
 type Habit = fn(&mut Input) -> Vec<u8>;
@@ -55,7 +56,7 @@ pub fn input_of(seed: u64, turns: &mut Turns) -> Vec<u8> {
 impl Input {
     fn begun(mut random: Random) -> Input {
         let (loads, times) = any_ways(&mut random);
-        Input { random, bytes: Vec::new(), log: PaperLog::formatted(SLOTS), loads, times }
+        Input { random, bytes: Vec::new(), log: PaperLog::formatted(Form::New, SLOTS), loads, times }
     }
 
     fn enter(&mut self, text: &[u8], turns: &mut Turns) {

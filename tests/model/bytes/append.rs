@@ -1,9 +1,12 @@
 //! Append and drop after grounds 1 to 9: closing by force, the slot that must go, the lift itself.
 use super::bloom::set_bits;
 use super::close::close_segment;
+use super::header::Header;
 use super::insert::{find_place, write_place, Place};
+use super::state::step;
 use super::work::*;
 use crate::limits::{Outcome, LOAD_SHIFT, ROW_BYTES, SEGMENT_BUCKETS, SEGMENT_LIFTS};
+use script::form::Form;
 
 pub fn append_lift(work: &mut Work, time: u64, load: i32, note: &[u8; 20]) -> Outcome<()> {
     let place = place_in_open_segment(work, load)?;
@@ -15,7 +18,7 @@ pub fn append_lift(work: &mut Work, time: u64, load: i32, note: &[u8; 20]) -> Ou
         }
     };
     if work.state.count == 0 {
-        enter_serial(work);
+        enter_serial(work, time)?;
     }
     write_place(work, &place, load)?;
     fill_buffers(work, time, load, note)?;
@@ -34,12 +37,34 @@ fn place_in_open_segment(work: &Work, load: i32) -> Outcome<Option<Place>> {
 }
 
 /// The first append to a serial: the segment S before it goes, if it is still retained.
-fn enter_serial(work: &mut Work) {
+fn enter_serial(work: &mut Work, time: u64) -> Outcome<()> {
     let open = work.state.open;
     if u64::from(work.state.oldest) + work.slots <= u64::from(open) {
         work.erase_slot(slot_of(open, work.slots));
         work.state.oldest = open - work.slots as u32 + 1;
+        renew_oldest_live(work)?;
+    } else if work.state.form == Form::Old && work.state.oldest == open {
+        work.state.oldest_live = time;
     }
+    Ok(())
+}
+
+/// "A drop, forced or not, reads the header of the closed segment that becomes oldest." "The oldest live time leaves the
+/// state, so a drop reads no header." (W-202)
+fn renew_oldest_live(work: &mut Work) -> Outcome<()> {
+    let state = &work.state;
+    if state.form == Form::New {
+        return Ok(());
+    }
+    work.state.oldest_live = if state.oldest < state.open {
+        let page = work.page(slot_of(state.oldest, work.slots), HEADER_PAGE);
+        Header::read(state.form, page, work.slots, state.open)?.start
+    } else if state.count > 0 {
+        state.start
+    } else {
+        state.next
+    };
+    Ok(())
 }
 
 /// A lift page goes to NAND at its sixteenth lift, a Bloom section to NOR at its sixty-fourth.
@@ -74,11 +99,12 @@ fn note_in_state(work: &mut Work, time: u64, load: i32) {
     state.high = state.high.max(load);
     state.push_last_load(load);
     state.count += 1;
-    state.next = time;
+    state.next = time + step(state.form);
 }
 
-/// "a drop reads no header" (W-202)
-pub fn drop_oldest_closed(work: &mut Work) {
+/// Erases the oldest closed segment.
+pub fn drop_oldest_closed(work: &mut Work) -> Outcome<()> {
     work.erase_slot(slot_of(work.state.oldest, work.slots));
     work.state.oldest += 1;
+    renew_oldest_live(work)
 }

@@ -1,9 +1,10 @@
 //! Closing the open segment: its pages, the heads, and on to the next serial.
 use super::bloom::{bloom_page, fragment_length, sections_of};
-use super::header::{level_of, Header, FORM};
-use super::state::Pointer;
+use super::header::{level_of, Header};
+use super::state::{step, Pointer};
 use super::work::*;
 use script::areas::PAGE_BYTES;
+use script::form::Form;
 
 /// Programs, in rising page order, what the open segment has to leave in its slot; then moves on.
 pub fn close_segment(work: &mut Work) {
@@ -17,7 +18,11 @@ pub fn close_segment(work: &mut Work) {
     program_bloom(work, slot);
     let header = header_to_program(work);
     work.program(slot, HEADER_PAGE, &header.page());
-    let this = Pointer { slot: slot as u16, serial: work.state.open, time: work.state.start };
+    let serial = match work.state.form {
+        Form::Old => 0,
+        Form::New => work.state.open,
+    };
+    let this = Pointer { slot: slot as u16, serial, time: work.state.start };
     work.state.heads[..level_of(work.state.open)].fill(this);
     work.erase_nor();
     work.state.open += 1;
@@ -63,9 +68,10 @@ fn header_to_program(work: &Work) -> Header {
         sections,
         fragment_length: fragment_length(sections),
         level: level as u8,
-        form: FORM,
+        form: state.form,
+        byte_ten: state.form.byte_ten(),
         start: state.start,
-        end: state.next,
+        end: state.next - step(state.form),
         low: state.low.into(),
         high: state.high.into(),
         pointers,

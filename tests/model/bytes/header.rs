@@ -3,10 +3,8 @@ use super::bloom::{fragment_length, sections_of};
 use super::numbers::{u16_at, u32_at, u64_at, Bytes};
 use super::state::Pointer;
 use crate::limits::*;
-use script::areas::{PAGE_BYTES, POINTER_BYTES};
-
-/// "Header byte 10 is 1 in this form" (W-202)
-pub const FORM: u8 = 1;
+use script::areas::PAGE_BYTES;
+use script::form::Form;
 
 pub struct Header {
     pub serial: u32,
@@ -15,7 +13,10 @@ pub struct Header {
     pub sections: usize,
     pub fragment_length: usize,
     pub level: u8,
-    pub form: u8,
+    /// The form that it is written in, and read as.
+    pub form: Form,
+    /// Byte 10, which tells the form; document 01 leaves it unread.
+    pub byte_ten: u8,
     pub start: u64,
     pub end: u64,
     /// Low and high are loads as logged; the page holds stored ones.
@@ -33,18 +34,18 @@ impl Header {
     pub fn page(&self) -> Vec<u8> {
         let mut page = Bytes::default();
         page.put(&self.serial.to_le_bytes()).put(&(self.count as u16).to_le_bytes());
-        page.put(&[self.buckets as u8, self.sections as u8, self.fragment_length as u8, self.level, self.form]);
+        page.put(&[self.buckets as u8, self.sections as u8, self.fragment_length as u8, self.level, self.byte_ten]);
         page.filled_to(16, 0);
         page.put(&self.start.to_le_bytes()).put(&self.end.to_le_bytes());
         page.put(&((self.low + LOAD_SHIFT) as u32).to_le_bytes());
         page.put(&((self.high + LOAD_SHIFT) as u32).to_le_bytes());
-        self.pointers.iter().for_each(|pointer| pointer.put_into(&mut page));
+        self.pointers.iter().for_each(|pointer| pointer.put_into(&mut page, self.form));
         page.filled_to(PAGE_BYTES, 0);
         page.0
     }
 
-    /// Reads a header; its serial must be below `serial_before`.
-    pub fn read(page: &[u8], slots: u64, serial_before: u32) -> Outcome<Header> {
+    /// Reads a header of a form; its serial must be below `serial_before`.
+    pub fn read(form: Form, page: &[u8], slots: u64, serial_before: u32) -> Outcome<Header> {
         let header = Header {
             serial: u32_at(page, 0),
             count: u16_at(page, 4).into(),
@@ -52,15 +53,21 @@ impl Header {
             sections: page[7].into(),
             fragment_length: page[8].into(),
             level: page[9],
-            form: page[10],
+            form,
+            byte_ten: page[10],
             start: u64_at(page, 16),
             end: u64_at(page, 24),
             low: i64::from(u32_at(page, 32)) - LOAD_SHIFT,
             high: i64::from(u32_at(page, 36)) - LOAD_SHIFT,
-            pointers: std::array::from_fn(|level| Pointer::at(page, 40 + POINTER_BYTES * level)),
+            pointers: std::array::from_fn(|level| Pointer::at(page, 40 + form.pointer_bytes() * level, form)),
         };
         refuse_if(header.is_damaged(slots) || header.serial >= serial_before, DAMAGE)?;
         Ok(header)
+    }
+
+    /// "any other byte 10 counts as damage" (W-202), in form 1
+    fn is_of_another_form(&self) -> bool {
+        self.form == Form::New && self.byte_ten != self.form.byte_ten()
     }
 
     fn is_damaged(&self, slots: u64) -> bool {
@@ -70,7 +77,7 @@ impl Header {
             || !(1..=SEGMENT_BUCKETS).contains(&self.buckets)
             || self.sections != sections_of(self.count)
             || self.fragment_length != fragment_length(self.sections)
-            || self.form != FORM
+            || self.is_of_another_form()
             || time_past_limit(self.start)
             || time_past_limit(self.end)
             || load_past_limit(self.low)

@@ -1,8 +1,10 @@
-//! The expectation of every byte: document 01, in form 1 of W-202, over whatever chips and state are handed over.
+//! The expectation of every byte, over whatever chips and states are handed over: document 01 in its own form 0 and in
+//! form 1 of W-202, and W-203's conversions.
 mod append;
 mod bloom;
 mod bucket;
 mod calls;
+mod carry;
 mod close;
 mod header;
 mod insert;

@@ -1,4 +1,4 @@
-//! Document 01, "Search", as W-202 amends it: the open segment, the skip walk, level 1, and the matches of each.
+//! Document 01, "Search", and as W-202 amends it: the open segment, the skip walk, level 1, and the matches of each.
 use super::bloom;
 use super::bucket::{Bucket, NO_CHILD};
 use super::header::Header;
@@ -8,6 +8,7 @@ use super::work::*;
 use crate::limits::*;
 use script::areas::{Areas, PAGE_BYTES};
 use script::calls::Window;
+use script::form::Form;
 
 /// What a search reads, and the serial of the header read last.
 struct Reader<'a> {
@@ -31,13 +32,12 @@ pub fn find(areas: &Areas, state: &State, slots: u64, window: &Window) -> Outcom
     if has_open_lifts {
         newest_first.push(reader.open_matches(window)?);
     }
-    // "A search goes on while a segment's start, the open one's included, is at least t1."
-    if !(has_open_lifts && state.start < window.t1) {
+    if !(has_open_lifts && ends_with(state.form, state.start, window)) {
         let mut pointer = reader.walk_to(window.t2)?;
-        while pointer.is_live(state.oldest) {
+        while state.is_live(&pointer) {
             let header = reader.load_header(pointer)?;
             newest_first.push(reader.closed_matches(&header, pointer.slot.into(), window)?);
-            if header.start < window.t1 {
+            if ends_with(state.form, header.start, window) {
                 break;
             }
             pointer = header.pointers[0];
@@ -46,10 +46,19 @@ pub fn find(areas: &Areas, state: &State, slots: u64, window: &Window) -> Outcom
     Ok(newest_first.into_iter().rev().flatten().collect())
 }
 
+/// "until a start ≤ t1 has been done"; in form 1 "A search goes on while a segment's start, the open one's included, is at
+/// least t1." (W-202)
+fn ends_with(form: Form, start: u64, window: &Window) -> bool {
+    match form {
+        Form::Old => start <= window.t1,
+        Form::New => start < window.t1,
+    }
+}
+
 impl Reader<'_> {
     fn load_header(&mut self, pointer: Pointer) -> Outcome<Header> {
         let page = page_of(&self.areas.nand, pointer.slot.into(), HEADER_PAGE);
-        let header = Header::read(page, self.slots, self.serial_before)?;
+        let header = Header::read(self.state.form, page, self.slots, self.serial_before)?;
         self.serial_before = header.serial;
         Ok(header)
     }
@@ -58,7 +67,7 @@ impl Reader<'_> {
     fn walk_to(&mut self, t2: u64) -> Outcome<Pointer> {
         let mut pointers = self.state.heads;
         for level in (0..4).rev() {
-            while pointers[level].is_live(self.state.oldest) && pointers[level].time > t2 {
+            while self.state.is_live(&pointers[level]) && pointers[level].time > t2 {
                 pointers = self.load_header(pointers[level])?.pointers;
             }
         }

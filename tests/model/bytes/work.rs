@@ -3,6 +3,7 @@ use super::numbers::all_255;
 use super::state::State;
 use crate::limits::{Outcome, DAMAGE, PAGE_NOT_ERASED};
 use script::areas::{Areas, PAGE_BYTES, SLOT_BYTES};
+use script::command::Part;
 
 pub const HEADER_PAGE: usize = 31;
 pub const BLOOM_PAGE: usize = 29;
@@ -22,6 +23,11 @@ pub fn page_of(nand: &[u8], slot: usize, page: usize) -> &[u8] {
     &nand[offset..offset + PAGE_BYTES]
 }
 
+/// The state goes into the area of its form.
+pub fn put_state(areas: &mut Areas, state: &State) {
+    areas.part_mut(Part::State(state.form)).copy_from_slice(&state.to_bytes());
+}
+
 pub struct Work<'a> {
     pub slots: u64,
     pub state: State,
@@ -38,7 +44,7 @@ impl<'a> Work<'a> {
         Work { slots, state, nor, areas, replaced: Vec::new(), met_unerased_page: false }
     }
 
-    fn page(&self, slot: usize, page: usize) -> &[u8] {
+    pub fn page(&self, slot: usize, page: usize) -> &[u8] {
         page_of(&self.areas.nand, slot, page)
     }
 
@@ -83,7 +89,7 @@ impl<'a> Work<'a> {
         };
         if result.is_ok() {
             self.areas.nor = self.nor;
-            self.areas.state = self.state.to_bytes();
+            put_state(self.areas, &self.state);
         } else {
             while let Some((offset, bytes)) = self.replaced.pop() {
                 self.areas.nand[offset..offset + bytes.len()].copy_from_slice(&bytes);

@@ -1,7 +1,8 @@
 -- `state_bytes::get_state` meets its contract, field by field.
+use Rattle.form.specs.declared.Form.the-variants.{New}
+use Rattle.state_bytes.specs.StateBytes.{stateIn}
 use Rattle.state_bytes.proofs.Signs.{read-back}
 use Rattle.state_bytes.proofs.Reading.{read}
-use native.Mathlib.Omega.{arith}
 use borrow.Author.Needs.{needs}
 use Rattle.state_bytes.proofs.get_state.Statement.{statement}
 use Rattle.state_bytes.proofs.get_state.Tie as tie
@@ -43,8 +44,9 @@ load-at-requires-2 : tie.Need-load-at-requires-2
 load-at-requires-2 c κs = search needs
 
 returns : tie.Need-returns
+unfolding stateIn
 returns c =
-    read _ _
+    read New _ _
     (c .before .before .before .before .before .before .before .before .before .before .before .get-u32 .ensures)
     (c .before .before .before .before .before .before .before .before .before .before .get-u322 .ensures)
     (c .before .before .before .before .before .before .before .before .before .get-u16 .ensures)

@@ -1,7 +1,8 @@
 -- `state_bytes::loads_at` meets its contract: thirteen loads side by side.
-use mathlib.Core.Path.{_≡_, refl}
+use mathlib.Core.Path.{_≡_, refl, ap, _∙_}
+use Prim.Native.Nat.{ℕ, _+_, _*_}
 use Rattle.state_bytes.specs.Signed.{loadsAt}
-use Rattle.state_bytes.proofs.Signs.{next}
+use Rattle.state_bytes.proofs.Reading.{next-load}
 use native.Mathlib.Omega.{arith}
 use borrow.Author.Needs.{needs}
 use Rattle.state_bytes.proofs.loads_at.Statement.{statement}
@@ -85,20 +86,22 @@ load-at-requires-13 c κs = search needs
 returns : tie.Need-returns
 unfolding loadsAt
 returns c =
-    next (c .before .before .before .before .before .before .before .before .before .before .before .before .load-at .ok) (c .before .before .before .before .before .before .before .before .before .before .before .before .load-at .ensures) (
-    next (c .before .before .before .before .before .before .before .before .before .before .before .load-at2 .ok) (c .before .before .before .before .before .before .before .before .before .before .before .load-at2 .ensures) (
-    next (c .before .before .before .before .before .before .before .before .before .before .load-at3 .ok) (c .before .before .before .before .before .before .before .before .before .before .load-at3 .ensures) (
-    next (c .before .before .before .before .before .before .before .before .before .load-at4 .ok) (c .before .before .before .before .before .before .before .before .before .load-at4 .ensures) (
-    next (c .before .before .before .before .before .before .before .before .load-at5 .ok) (c .before .before .before .before .before .before .before .before .load-at5 .ensures) (
-    next (c .before .before .before .before .before .before .before .load-at6 .ok) (c .before .before .before .before .before .before .before .load-at6 .ensures) (
-    next (c .before .before .before .before .before .before .load-at7 .ok) (c .before .before .before .before .before .before .load-at7 .ensures) (
-    next (c .before .before .before .before .before .load-at8 .ok) (c .before .before .before .before .before .load-at8 .ensures) (
-    next (c .before .before .before .before .load-at9 .ok) (c .before .before .before .before .load-at9 .ensures) (
-    next (c .before .before .before .load-at10 .ok) (c .before .before .before .load-at10 .ensures) (
-    next (c .before .before .load-at11 .ok) (c .before .before .load-at11 .ensures) (
-    next (c .before .load-at12 .ok) (c .before .load-at12 .ensures) (
-    next (c .load-at13 .ok) (c .load-at13 .ensures) (
-    refl)))))))))))))
+    let a = c .before .before .before .before .before .before .before .before .before .before .before .before .before .before .args in
+    let z : a .at + 4 * 0 ≡ a .at = omega arith in
+    next-load (a .b .now) (a .at) 0 12 _ z (c .before .before .before .before .before .before .before .before .before .before .before .before .load-at .ok) (c .before .before .before .before .before .before .before .before .before .before .before .before .load-at .ensures) (
+    next-load (a .b .now) (a .at) 1 11 _ refl (c .before .before .before .before .before .before .before .before .before .before .before .load-at2 .ok) (c .before .before .before .before .before .before .before .before .before .before .before .load-at2 .ensures) (
+    next-load (a .b .now) (a .at) 2 10 _ refl (c .before .before .before .before .before .before .before .before .before .before .load-at3 .ok) (c .before .before .before .before .before .before .before .before .before .before .load-at3 .ensures) (
+    next-load (a .b .now) (a .at) 3 9 _ refl (c .before .before .before .before .before .before .before .before .before .load-at4 .ok) (c .before .before .before .before .before .before .before .before .before .load-at4 .ensures) (
+    next-load (a .b .now) (a .at) 4 8 _ refl (c .before .before .before .before .before .before .before .before .load-at5 .ok) (c .before .before .before .before .before .before .before .before .load-at5 .ensures) (
+    next-load (a .b .now) (a .at) 5 7 _ refl (c .before .before .before .before .before .before .before .load-at6 .ok) (c .before .before .before .before .before .before .before .load-at6 .ensures) (
+    next-load (a .b .now) (a .at) 6 6 _ refl (c .before .before .before .before .before .before .load-at7 .ok) (c .before .before .before .before .before .before .load-at7 .ensures) (
+    next-load (a .b .now) (a .at) 7 5 _ refl (c .before .before .before .before .before .load-at8 .ok) (c .before .before .before .before .before .load-at8 .ensures) (
+    next-load (a .b .now) (a .at) 8 4 _ refl (c .before .before .before .before .load-at9 .ok) (c .before .before .before .before .load-at9 .ensures) (
+    next-load (a .b .now) (a .at) 9 3 _ refl (c .before .before .before .load-at10 .ok) (c .before .before .before .load-at10 .ensures) (
+    next-load (a .b .now) (a .at) 10 2 _ refl (c .before .before .load-at11 .ok) (c .before .before .load-at11 .ensures) (
+    next-load (a .b .now) (a .at) 11 1 _ refl (c .before .load-at12 .ok) (c .before .load-at12 .ensures) (
+    next-load (a .b .now) (a .at) 12 0 _ refl (c .load-at13 .ok) (c .load-at13 .ensures) (
+    refl))))))))))))) ∙ ap (λ (k : ℕ). loadsAt (a .b .now) k 13) z
 
 pub loads-at-spec : {M : Type 1} → statement M
 loads-at-spec =

@@ -14,13 +14,13 @@ use Rattle.state_bytes.proofs.put_loads.Statement.{statement}
 use Rattle.state_bytes.proofs.put_loads.Tie as tie
 
 abbrev Inv-loop : tie.InvT-loop
-Inv-loop b₀ loads i₀ b i = Put loadBytes 4 length-load b₀ 75 loads b i
+Inv-loop b₀ at loads i₀ b i = Put loadBytes 4 length-load b₀ at loads b i
 
 abbrev μ-loop : tie.MeasureT-loop
-μ-loop b₀ loads i₀ b i = 13 - i
+μ-loop b₀ at loads i₀ b i = 13 - i
 
 loop-holds : tie.Need-loop-holds Inv-loop μ-loop
-loop-holds c = put-none loadBytes 4 length-load _ 75 (c .before .args .t2) (omega arith)
+loop-holds c = put-none loadBytes 4 length-load _ (c .before .args .at) (c .before .args .t3) (omega arith)
 
 mul-x : tie.Need-mul-x Inv-loop μ-loop
 mul-x c = search needs
@@ -49,9 +49,9 @@ loop-again : tie.Need-loop-again Inv-loop μ-loop
 loop-again c =
     let l = c .before .before .before .before .before .before in
     let a = l .before .before .args in
-    let n : length (a .t2) ≡ 13 = search needs in
-    let e : toZ w32 (ofZ w32 (getD (a .t2) (l .loop .i) (pos 0))) ≡ getD (a .t2) (l .loop .i) (pos 0) = search needs in
-    put-next loadBytes 4 length-load _ _ _ 75 (a .t2) (l .loop .i) _ (pos 0) _ (omega arith) (omega arith) refl (l .loop .inv) e
+    let n : length (a .t3) ≡ 13 = search needs in
+    let e : toZ w32 (ofZ w32 (getD (a .t3) (l .loop .i) (pos 0))) ≡ getD (a .t3) (l .loop .i) (pos 0) = search needs in
+    put-next loadBytes 4 length-load _ _ _ (a .at) (a .t3) (l .loop .i) _ (pos 0) _ (omega arith) (omega arith) refl (l .loop .inv) e
     (c .before .before .put-load .ensures)
 
 same-length : tie.Need-same-length Inv-loop μ-loop
@@ -60,8 +60,8 @@ same-length c = omega (arith, c .before .loop .inv .1)
 returns : tie.Need-returns Inv-loop μ-loop
 returns c =
     let a = c .before .before .before .args in
-    let n : length (a .t2) ≡ 13 = search needs in
-    put-all loadBytes 4 length-load _ _ 75 (a .t2) _ (omega arith) (c .before .loop .inv)
+    let n : length (a .t3) ≡ 13 = search needs in
+    put-all loadBytes 4 length-load _ _ (a .at) (a .t3) _ (omega arith) (c .before .loop .inv)
 
 pub put-loads-spec : {M : Type 1} → statement M
 put-loads-spec =

@@ -47,7 +47,9 @@ add-at : tie.Need-add-at
 add-at c = search needs
 
 put-record-requires : tie.Need-put-record-requires
-put-record-requires c κs = search needs
+put-record-requires c κs =
+    let w = c .before .before .before .before .before .before .before .before .before .before .before .before .before .before .before .before in
+    omega (arith, w .pre .0)
 
 put-around-requires : tie.Need-put-around-requires
 put-around-requires c κs = c .before .before .before .put-record .kept .0 ∙ c .before .before .before .before .before .before .before .before .before .before .before .before .before .before .before .before .before .before .before .before .pre .0

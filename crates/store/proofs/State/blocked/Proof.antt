@@ -3,6 +3,7 @@ use mathlib.Core.Path.{sym, ap, _∙_}
 use lib.ListN.{length}
 use Rattle.grow.specs.Meaning.{meaning}
 use Rattle.store.specs.World.{world}
+use Rattle.form.specs.declared.Form.the-variants.{New}
 use Rattle.store.specs.Calls.{boundsGround}
 use Rattle.store.specs.Pieces.{laterGround}
 use Rattle.store.proofs.Grounds.{standing}
@@ -26,7 +27,7 @@ blocked-closing-requires c κs =
     let s = f .before .before .before .before .before in
     let a = s .args in
     let st = standing _ _ _ _ (s .pre .0) in
-    ap (λ n. boundsGround (a .self) (length (a .nand .now)) n (a .slots)) (sym (st .chips .nor-size)) ∙ s .pre .0
+    ap (λ n. boundsGround New (a .self) 0 (length (a .nand .now)) n (a .slots)) (sym (st .chips .nor-size)) ∙ s .pre .0
 
 returns-2 : tie.Need-returns-2
 returns-2 c =

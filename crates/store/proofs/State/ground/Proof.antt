@@ -11,7 +11,7 @@ chips-ground-requires : tie.Need-chips-ground-requires
 chips-ground-requires c κs = search needs
 
 returns : tie.Need-returns
-returns c = bounds-chips _ _ _ _ _ (c .before .chips-ground .ensures) (c .if1 .taken)
+returns c = bounds-chips _ _ _ _ _ _ _ (c .before .chips-ground .ensures) (c .if1 .taken)
 
 within-bounds-requires : tie.Need-within-bounds-requires
 within-bounds-requires c κs = search needs
@@ -19,13 +19,13 @@ within-bounds-requires c κs = search needs
 returns-2 : tie.Need-returns-2
 returns-2 c =
     let n = c .before .before in
-    ap (λ b. ground 3 b 0) (sym (c .if2 .taken)) ∙ bounds-state _ _ _ _ _ (n .before .chips-ground .ensures) _
+    ap (λ b. ground 3 b 0) (sym (c .if2 .taken)) ∙ bounds-state _ _ _ _ _ _ _ (n .before .chips-ground .ensures) _
     (omega (arith, n .if1 .left)) (c .before .within-bounds .ensures)
 
 returns-3 : tie.Need-returns-3
 returns-3 c =
     let n = c .before .before in
-    ap (λ b. ground 3 b 0) (sym (c .if2 .left)) ∙ bounds-state _ _ _ _ _ (n .before .chips-ground .ensures) _
+    ap (λ b. ground 3 b 0) (sym (c .if2 .left)) ∙ bounds-state _ _ _ _ _ _ _ (n .before .chips-ground .ensures) _
     (omega (arith, n .if1 .left)) (c .before .within-bounds .ensures)
 
 pub ground-spec : {M : Type 1} → statement M

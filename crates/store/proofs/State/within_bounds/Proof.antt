@@ -33,7 +33,7 @@ returns c =
     let s = t .before .before .before .before .before .args .self in
     let low = toZ-ofZ w32 (s .low) (record { sfits = c .before .before .before .before .struct-told .given .1 .1 .1 .1 .1 .1 .1 .1 .1 .1 .0 .1 }) in
     let high = toZ-ofZ w32 (s .high) (record { sfits = c .before .before .before .struct-told2 .given .1 .1 .1 .1 .1 .1 .1 .1 .1 .1 .1 .0 .1 }) in
-    six-tests s _ _ _ _ _ _ _ (t .before .before .serials-ok .ensures) (t .before .counts-ok .ensures) (t .times-ok .ensures)
+    six-tests _ s _ _ _ _ _ _ _ _ (t .before .before .serials-ok .ensures) (t .before .counts-ok .ensures) (t .times-ok .ensures)
     (c .before .before .span-ok .ensures ∙ ap (λ l. spanOk (s .count) l (toZ w32 (ofZ w32 (s .high)))) low
     ∙ ap (spanOk (s .count) (s .low)) high)
     (c .before .loads-ok .ensures) (c .heads-ok .ensures)

@@ -1,0 +1,4 @@
+pub mod Seeking
+pub mod Rising
+pub mod Carrying
+pub mod Judged

@@ -1,0 +1,4 @@
+pub mod Carried
+pub mod Retained
+pub mod Outcome
+pub mod Pieces

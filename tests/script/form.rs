@@ -1,0 +1,73 @@
+//! The two forms of a store, and where each field stands in their state areas.
+
+/// Form 0 is document 01's, form 1 that of W-202.
+#[derive(Clone, Copy, Debug, PartialEq)]
+pub enum Form {
+    Old,
+    New,
+}
+
+impl Form {
+    /// The form that a store of this one is carried into.
+    pub const fn other(self) -> Form {
+        match self {
+            Form::Old => Form::New,
+            Form::New => Form::Old,
+        }
+    }
+
+    /// "Header byte 10 is 1 in this form, 0 before." (W-202)
+    pub const fn byte_ten(self) -> u8 {
+        match self {
+            Form::Old => 0,
+            Form::New => 1,
+        }
+    }
+
+    /// "so a pointer gains its serial: slot 2, serial 4, time 8" (W-202)
+    pub const fn serial_bytes(self) -> usize {
+        match self {
+            Form::Old => 0,
+            Form::New => 4,
+        }
+    }
+
+    /// "The oldest live time leaves the state" (W-202)
+    const fn live_bytes(self) -> usize {
+        match self {
+            Form::Old => 8,
+            Form::New => 0,
+        }
+    }
+
+    pub const fn pointer_bytes(self) -> usize {
+        2 + self.serial_bytes() + 8
+    }
+
+    /// Where the four heads begin; the oldest live time stands before them.
+    pub const fn heads(self) -> usize {
+        19 + self.live_bytes()
+    }
+
+    pub const fn last_loads(self) -> usize {
+        self.heads() + 4 * self.pointer_bytes()
+    }
+
+    pub const fn page_buffer(self) -> usize {
+        self.last_loads() + 4 * 13
+    }
+
+    pub const fn bloom_buffer(self) -> usize {
+        self.page_buffer() + 512
+    }
+
+    /// Where the open segment's start stands, then its low and its high load.
+    pub const fn start(self) -> usize {
+        self.bloom_buffer() + 128
+    }
+
+    /// "783 bytes, or 775 in form 0" (W-214)
+    pub const fn state_bytes(self) -> usize {
+        self.start() + 16
+    }
+}
