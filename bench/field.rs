@@ -1,4 +1,4 @@
-//! The four contenders at one S, filled with the same lifts, and the check that they answer alike.
+//! The contenders at one S, filled with the same lifts, and the check that they answer alike.
 use crate::gym::Gym;
 use crate::in_place::InPlace;
 use crate::lift::{Contender, Lift, RECORD_BYTES};
@@ -6,24 +6,45 @@ use crate::proved::Proved;
 use crate::scan::Scan;
 use plain::Window;
 
-pub const NAMES: [&str; 4] = ["store", "(a) in place", "(b) SQLite", "(c) array"];
+pub const CONTENDERS: usize = 5;
+pub const NAMES: [&str; CONTENDERS] = ["store", "(a) in place", "(b) SQLite", "(c) array", "(d) LMDB"];
+
+type Other = Option<Box<dyn Contender>>;
 
 #[cfg(sqlite)]
-fn sqlite() -> Option<Box<dyn Contender>> {
+fn sqlite() -> Other {
     Some(Box::new(crate::sqlite::Sqlite::new()))
 }
 
 #[cfg(not(sqlite))]
-fn sqlite() -> Option<Box<dyn Contender>> {
+fn sqlite() -> Other {
     None
+}
+
+#[cfg(lmdb)]
+fn lmdb() -> Other {
+    Some(Box::new(crate::lmdb::Lmdb::new()))
+}
+
+#[cfg(not(lmdb))]
+fn lmdb() -> Other {
+    None
+}
+
+fn lent(other: &mut Other) -> Option<&mut dyn Contender> {
+    match other {
+        Some(contender) => Some(contender.as_mut()),
+        None => None,
+    }
 }
 
 pub struct Field {
     pub slots: u64,
     pub proved: Proved,
     in_place: InPlace,
-    sqlite: Option<Box<dyn Contender>>,
+    sqlite: Other,
     scan: Scan,
+    lmdb: Other,
     gym: Gym,
     /// The result area: a row for each retained lift.
     pub rows: Vec<u8>,
@@ -40,6 +61,7 @@ impl Field {
             in_place: InPlace::new(slots),
             sqlite: sqlite(),
             scan: Scan::default(),
+            lmdb: lmdb(),
             gym: Gym::new(20_260_701),
             rows: Vec::new(),
             span: (0, 0),
@@ -59,13 +81,15 @@ impl Field {
         self.gym.lifts(at_least)
     }
 
-    /// The contenders in the order of their names; SQLite where it is to be had.
-    pub fn contenders(&mut self) -> [Option<&mut dyn Contender>; 4] {
-        let sqlite: Option<&mut dyn Contender> = match &mut self.sqlite {
-            Some(sqlite) => Some(sqlite.as_mut()),
-            None => None,
-        };
-        [Some(&mut self.proved), Some(&mut self.in_place), sqlite, Some(&mut self.scan)]
+    /// The contenders in the order of their names; SQLite and LMDB where they are to be had.
+    pub fn contenders(&mut self) -> [Option<&mut dyn Contender>; CONTENDERS] {
+        let (sqlite, lmdb) = (lent(&mut self.sqlite), lent(&mut self.lmdb));
+        [Some(&mut self.proved), Some(&mut self.in_place), sqlite, Some(&mut self.scan), lmdb]
+    }
+
+    /// How SQLite goes about each kind of question.
+    pub fn sqlite_plans(&self) -> Vec<(&'static str, String)> {
+        self.sqlite.as_ref().map_or(Vec::new(), |sqlite| sqlite.plans())
     }
 
     /// After appends: what the store dropped is dropped by the others, and the area has room for all.

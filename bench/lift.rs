@@ -26,6 +26,10 @@ pub trait Contender {
     fn tally(&mut self, t1: u64, t2: u64) -> [u64; 21];
     /// Only the last so many lifts are still retained.
     fn keep_last(&mut self, _lifts: usize) {}
+    /// How questions are gone about, by a contender that has a planner.
+    fn plans(&self) -> Vec<(&'static str, String)> {
+        Vec::new()
+    }
 
     fn append_all(&mut self, lifts: &[Lift]) {
         for lift in lifts {

@@ -1,11 +1,15 @@
-//! The store against an in-place implementation, SQLite and a plain array, on the same lifts and questions.
+//! The store against an in-place implementation, SQLite, a plain array and LMDB, on the same lifts and questions.
 mod agree;
 mod carried;
 mod clock;
 mod field;
 mod gym;
 mod in_place;
+#[cfg(any(sqlite, lmdb))]
+mod key;
 mod lift;
+#[cfg(lmdb)]
+mod lmdb;
 mod measure;
 mod proved;
 mod questions;
@@ -13,13 +17,15 @@ mod report;
 mod scan;
 #[cfg(sqlite)]
 mod sqlite;
+#[cfg(sqlite)]
+mod sqlite_calls;
 mod stack;
 
 use carried::{backward, Carried, OldStore};
 use field::Field;
 use measure::{append_ratio, appends, conversions, searches, tallies, Line};
 use proved::Proved;
-use questions::{everything, Questions};
+use questions::{everything, five_plates, Questions};
 
 const SIZES: [u64; 3] = [2, 64, 4_096];
 const CONVERTED_SIZES: [u64; 2] = [64, 4_096];
@@ -27,7 +33,7 @@ const CONVERTED_SIZES: [u64; 2] = [64, 4_096];
 fn measured(slots: u64) -> (Field, Vec<Line>) {
     let mut field = Field::filled(slots);
     field.check_bytes();
-    field.check_searches(&[everything(&field)]);
+    field.check_searches(&[everything(&field), five_plates(&field)]);
     let append = appends(&mut field, report::APPEND);
     let mut asked = Questions::new(&field);
     // Fewer questions where each takes long.
@@ -97,6 +103,9 @@ fn main() {
     let depths = depths();
     println!();
     report::stacks(&depths);
+    report::plans(&large.sqlite_plans());
     println!();
     report::targets(&lines, append_ratio(&mut small, &mut large), &depths, &symbols);
+    println!("\n## Where others are faster\n");
+    report::faster(&lines);
 }

@@ -1,7 +1,7 @@
 //! Timed rounds: in each, every contender makes the same calls, one after the other.
 use crate::carried::{backward, backward_in_place, Carried, OldStore};
 use crate::clock;
-use crate::field::Field;
+use crate::field::{Field, CONTENDERS};
 use crate::lift::{Contender, Lift};
 use crate::proved::Proved;
 use plain::{OldState, State, Window};
@@ -18,6 +18,10 @@ const APPENDS_A_ROUND: usize = 20_000;
 
 /// The nanoseconds a call of one contender, round by round; none where it was not to be had.
 pub type Rounds = Vec<f64>;
+/// The same of every contender, in their order.
+type AllRounds = [Rounds; CONTENDERS];
+/// One round: a time for each contender that is there.
+type Round = [Option<f64>; CONTENDERS];
 
 /// The smallest, the median and the largest.
 pub fn spread(mut values: Vec<f64>) -> Option<[f64; 3]> {
@@ -36,7 +40,7 @@ pub struct Line {
     pub call: &'static str,
     /// Lifts found, counted or carried over by a call, on average.
     pub found: f64,
-    pub rounds: [Rounds; 4],
+    pub rounds: AllRounds,
 }
 
 fn ns_per_call(calls: usize, run: impl FnOnce()) -> f64 {
@@ -46,11 +50,11 @@ fn ns_per_call(calls: usize, run: impl FnOnce()) -> f64 {
 }
 
 /// Rounds while they are wanted; `round` hands back a time for each contender, the first to start given.
-fn rounds(wanted: impl Fn(usize) -> bool, mut round: impl FnMut(usize) -> [Option<f64>; 4]) -> [Rounds; 4] {
-    let mut all: [Rounds; 4] = Default::default();
+fn rounds(wanted: impl Fn(usize) -> bool, mut round: impl FnMut(usize) -> Round) -> AllRounds {
+    let mut all: AllRounds = Default::default();
     let mut n = 0;
     while wanted(n) {
-        for (rounds, ns) in all.iter_mut().zip(round(n % 4)) {
+        for (rounds, ns) in all.iter_mut().zip(round(n % CONTENDERS)) {
             rounds.extend(ns);
         }
         n += 1;
@@ -129,13 +133,13 @@ enum Side {
 }
 
 /// Rounds of one call by the store and by (a), now the one first and now the other.
-fn in_turns(mut run: impl FnMut(Side)) -> [Rounds; 4] {
+fn in_turns(mut run: impl FnMut(Side)) -> AllRounds {
     let sides = [Side::Store, Side::InPlace];
     let repeats = sides.map(|side| (ROUND_LEAST / ns_per_call(1, || run(side)).max(1.0)) as usize + 1);
     let start = Instant::now();
     let wanted = |n| n < ROUNDS_LEAST || (n < ROUNDS_MOST && start.elapsed() < TIME_FOR_ROUNDS);
     rounds(wanted, |first| {
-        let mut ns = [None; 4];
+        let mut ns = [None; CONTENDERS];
         for i in (0..2).map(|i| (first + i) % 2) {
             ns[i] = Some(ns_per_call(repeats[i], || (0..repeats[i]).for_each(|_| run(sides[i]))));
         }
@@ -143,22 +147,18 @@ fn in_turns(mut run: impl FnMut(Side)) -> [Rounds; 4] {
     })
 }
 
-fn one_round(
-    field: &mut Field,
-    first: usize,
-    mut time: impl FnMut(&mut dyn Contender, usize) -> f64,
-) -> [Option<f64>; 4] {
-    let mut ns = [None; 4];
+fn one_round(field: &mut Field, first: usize, mut time: impl FnMut(&mut dyn Contender, usize) -> f64) -> Round {
+    let mut ns = [None; CONTENDERS];
     let mut contenders = field.contenders();
-    for i in (0..4).map(|i| (first + i) % 4) {
+    for i in (0..CONTENDERS).map(|i| (first + i) % CONTENDERS) {
         ns[i] = contenders[i].as_mut().map(|contender| time(&mut **contender, i));
     }
     ns
 }
 
-fn repeated(field: &mut Field, windows: &[Window], run: impl Fn(&mut dyn Contender, &mut [u8])) -> [Rounds; 4] {
+fn repeated(field: &mut Field, windows: &[Window], run: impl Fn(&mut dyn Contender, &mut [u8])) -> AllRounds {
     let mut rows = std::mem::take(&mut field.rows);
-    let mut repeats = [1; 4];
+    let mut repeats = [1; CONTENDERS];
     one_round(field, 0, |contender, i| {
         let once = ns_per_call(1, || run(contender, &mut rows)).max(1.0);
         repeats[i] = (ROUND_LEAST / once) as usize + 1;

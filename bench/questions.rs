@@ -61,3 +61,8 @@ impl Questions {
 pub fn everything(field: &Field) -> Window {
     Window { t1: field.span.0, t2: field.span.1, k1: LOAD_MIN, k2: LOAD_MAX }
 }
+
+/// The whole log at one load that is often lifted.
+pub fn five_plates(field: &Field) -> Window {
+    Window { k1: 2_500, k2: 2_500, ..everything(field) }
+}

@@ -1,5 +1,5 @@
 //! The tables, as Markdown, and the targets with what was measured.
-use crate::field::NAMES;
+use crate::field::{CONTENDERS, NAMES};
 use crate::measure::{ratio, spread, Line, Rounds};
 
 pub const APPEND: &str = "append";
@@ -34,18 +34,55 @@ fn cell(rounds: &Rounds) -> String {
 }
 
 fn ratio_cell(line: &Line, above: usize, below: usize) -> String {
-    ratio(&line.rounds[above], &line.rounds[below]).map_or("-".into(), |r| format!("{r:.2}"))
+    ratio(&line.rounds[above], &line.rounds[below]).map_or("-".into(), |r| match r {
+        r if r < 0.01 => format!("{r:.4}"),
+        r => format!("{r:.2}"),
+    })
 }
 
 pub fn table(lines: &[Line]) {
     let names = NAMES.join(" | ");
-    println!("| S | call | lifts | {names} | store/(a) | (b)/store | (c)/store |");
-    println!("|---|---|---|---|---|---|---|---|---|---|");
+    println!("| S | call | lifts | {names} | store/(a) | (b)/store | (c)/store | (d)/store |");
+    println!("|---|---|---|---|---|---|---|---|---|---|---|---|");
     for line in lines {
         let cells = line.rounds.each_ref().map(cell).join(" | ");
-        let ratios = [(0, 1), (2, 0), (3, 0)].map(|(above, below)| ratio_cell(line, above, below));
+        let ratios = [(0, 1), (2, 0), (3, 0), (4, 0)].map(|(above, below)| ratio_cell(line, above, below));
         let found = grouped(line.found);
         println!("| {} | {} | {found} | {cells} | {} |", line.slots, line.call, ratios.join(" | "));
+    }
+}
+
+/// How SQLite goes about each kind of question, where it was measured.
+pub fn plans(plans: &[(&str, String)]) {
+    if plans.is_empty() {
+        return;
+    }
+    println!("\n| SQLite is asked for | its plan |");
+    println!("|---|---|");
+    for (what, plan) in plans {
+        println!("| {what} | {plan} |");
+    }
+}
+
+/// The lines in which (b), (c) or (d) is faster than the store, and how many times, by the median round.
+pub fn faster(lines: &[Line]) {
+    println!("| S | call | faster than the store |");
+    println!("|---|---|---|");
+    for line in lines {
+        let faster = |other: usize| ratio(&line.rounds[0], &line.rounds[other]).filter(|&times| times > 1.0);
+        let others = (2..CONTENDERS).filter_map(|other| Some((NAMES[other], faster(other)?)));
+        let others: Vec<String> = others.map(|(name, times)| format!("{name} {} times", times_cell(times))).collect();
+        if !others.is_empty() {
+            println!("| {} | {} | {} |", line.slots, line.call, others.join(", "));
+        }
+    }
+}
+
+/// Two digits behind the point for small numbers, none for large ones.
+fn times_cell(times: f64) -> String {
+    match times {
+        t if t < 10.0 => format!("{t:.2}"),
+        t => grouped(t),
     }
 }
 

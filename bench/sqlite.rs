@@ -1,126 +1,96 @@
-//! SQLite in memory, with an index on (time, load) and prepared statements.
+//! SQLite in memory: a table in order of time, an index by load and time, prepared statements.
+use crate::key::{highest, lowest, time_of, Keys};
 use crate::lift::{Contender, Lift, RECORD_BYTES};
-use plain::Window;
-use std::ffi::{c_char, c_int, c_void, CString};
-use std::ptr::null_mut;
+use crate::sqlite_calls::*;
+use plain::{plate_of, Window};
+use std::ffi::{c_int, c_void};
 
-#[link(name = "sqlite3")]
-extern "C" {
-    fn sqlite3_open(name: *const c_char, db: *mut *mut c_void) -> c_int;
-    fn sqlite3_exec(
-        db: *mut c_void,
-        sql: *const c_char,
-        call: *const c_void,
-        arg: *mut c_void,
-        error: *mut *mut c_char,
-    ) -> c_int;
-    fn sqlite3_prepare_v2(
-        db: *mut c_void,
-        sql: *const c_char,
-        len: c_int,
-        out: *mut *mut c_void,
-        tail: *mut *const c_char,
-    ) -> c_int;
-    fn sqlite3_bind_int64(statement: *mut c_void, i: c_int, value: i64) -> c_int;
-    fn sqlite3_bind_blob(statement: *mut c_void, i: c_int, bytes: *const u8, len: c_int, free: *const c_void) -> c_int;
-    fn sqlite3_step(statement: *mut c_void) -> c_int;
-    fn sqlite3_reset(statement: *mut c_void) -> c_int;
-    fn sqlite3_column_int64(statement: *mut c_void, i: c_int) -> i64;
-    fn sqlite3_column_blob(statement: *mut c_void, i: c_int) -> *const u8;
-    fn sqlite3_column_bytes(statement: *mut c_void, i: c_int) -> c_int;
-    fn sqlite3_finalize(statement: *mut c_void) -> c_int;
-    fn sqlite3_close(db: *mut c_void) -> c_int;
-}
-
-const OK: c_int = 0;
-const ROW: c_int = 100;
-const DONE: c_int = 101;
-
-const SCHEMA: &str = "PRAGMA journal_mode = OFF; PRAGMA synchronous = OFF;
-    CREATE TABLE lifts (time INTEGER NOT NULL, load INTEGER NOT NULL, note BLOB NOT NULL);
-    CREATE INDEX by_time_and_load ON lifts (time, load);
+/// `moment` is the lift's key: its time and its number among the lifts at that time. The table is a tree by it, with whole rows,
+/// and an entry of the index ends with its row's `moment`, so that the index is by load and time.
+const SCHEMA: &str = "PRAGMA page_size = 16384; PRAGMA journal_mode = OFF; PRAGMA synchronous = OFF;
+    PRAGMA analysis_limit = 1000;
+    CREATE TABLE lifts (moment INTEGER PRIMARY KEY, load INTEGER NOT NULL, note BLOB NOT NULL);
+    CREATE INDEX by_load ON lifts (load);
     BEGIN";
 const INSERT: &str = "INSERT INTO lifts VALUES (?1, ?2, ?3)";
-/// Rows are numbered as they arrive, so that lifts at one time stay in order.
-const SEARCH: &str = "SELECT time, load, note FROM lifts
-    WHERE time BETWEEN ?1 AND ?2 AND load BETWEEN ?3 AND ?4 ORDER BY time, rowid";
-const TALLY: &str = "SELECT CASE WHEN load <= 250 THEN 0 WHEN load > 9750 THEN 20 ELSE (load + 249) / 500 END AS plate,
-    COUNT(*) FROM lifts WHERE time BETWEEN ?1 AND ?2 GROUP BY plate";
-const FORGET: &str = "DELETE FROM lifts WHERE rowid <= (SELECT MAX(rowid) FROM lifts) - ?1";
+/// The planner takes the table.
+const LOADS: &str = "SELECT moment, load, note FROM lifts
+    WHERE moment BETWEEN ?1 AND ?2 AND load BETWEEN ?3 AND ?4 ORDER BY moment";
+/// The planner takes the index: it cannot tell from a range that it holds one load only.
+const ONE_LOAD: &str = "SELECT moment, load, note FROM lifts
+    WHERE moment BETWEEN ?1 AND ?2 AND load = ?3 ORDER BY moment";
+const TALLY: &str = "SELECT plates(load) FROM lifts WHERE moment BETWEEN ?1 AND ?2";
+const FORGET: &str =
+    "DELETE FROM lifts WHERE moment < (SELECT moment FROM lifts ORDER BY moment DESC LIMIT 1 OFFSET ?1)";
+
+type Counts = [u64; 21];
+const COUNTS_BYTES: c_int = 168;
 
 pub struct Sqlite {
-    db: *mut c_void,
-    insert: *mut c_void,
-    search: *mut c_void,
-    tally: *mut c_void,
-    forget: *mut c_void,
+    db: Db,
+    insert: Statement,
+    loads: Statement,
+    one_load: Statement,
+    tally: Statement,
+    forget: Statement,
+    keys: Keys,
 }
 
-// The handles live as long as the value, and every string handed over ends in 0.
 impl Sqlite {
     /// An open transaction, in which the filling and all appends take place.
     pub fn new() -> Sqlite {
-        let mut db = null_mut();
-        let name = CString::new(":memory:").unwrap();
-        assert_eq!(unsafe { sqlite3_open(name.as_ptr(), &mut db) }, OK, "SQLite does not open");
-        exec(db, SCHEMA);
-        let [insert, search, tally, forget] = [INSERT, SEARCH, TALLY, FORGET].map(|sql| prepare(db, sql));
-        Sqlite { db, insert, search, tally, forget }
+        let db = Db::open();
+        db.exec(SCHEMA);
+        db.aggregate(c"plates", count, hand_back);
+        let statements = [INSERT, LOADS, ONE_LOAD, TALLY, FORGET].map(|sql| db.prepare(sql));
+        let [insert, loads, one_load, tally, forget] = statements;
+        Sqlite { db, insert, loads, one_load, tally, forget, keys: Keys::default() }
+    }
+
+    /// The statement for a search, bound.
+    fn statement_for(&self, w: &Window) -> Statement {
+        let bounds = [lowest(w.t1) as i64, highest(w.t2) as i64, i64::from(w.k1), i64::from(w.k2)];
+        let (statement, bounds) = if w.k1 == w.k2 { (self.one_load, &bounds[..3]) } else { (self.loads, &bounds[..]) };
+        statement.bind(bounds);
+        statement
     }
 }
 
-fn exec(db: *mut c_void, sql: &str) {
-    let sql = CString::new(sql).unwrap();
-    let code = unsafe { sqlite3_exec(db, sql.as_ptr(), std::ptr::null(), null_mut(), null_mut()) };
-    assert_eq!(code, OK, "SQLite refuses {sql:?}");
-}
-
-fn prepare(db: *mut c_void, sql: &str) -> *mut c_void {
-    let text = CString::new(sql).unwrap();
-    let mut statement = null_mut();
-    let code = unsafe { sqlite3_prepare_v2(db, text.as_ptr(), -1, &mut statement, null_mut()) };
-    assert_eq!(code, OK, "SQLite refuses {sql}");
-    statement
-}
-
-fn bind(statement: *mut c_void, values: &[i64]) {
-    for (i, &value) in (1..).zip(values) {
-        assert_eq!(unsafe { sqlite3_bind_int64(statement, i, value) }, OK);
+/// A step of `plates`: the counts are SQLite's memory, zero at first.
+extern "C" fn count(context: *mut c_void, _: c_int, values: *mut *mut c_void) {
+    unsafe {
+        let counts = &mut *sqlite3_aggregate_context(context, COUNTS_BYTES).cast::<Counts>();
+        counts[plate_of(sqlite3_value_int(*values)).expect("a plate")] += 1;
     }
 }
 
-/// Runs a statement to its end, with `take` for each row.
-fn run(statement: *mut c_void, mut take: impl FnMut()) {
-    loop {
-        match unsafe { sqlite3_step(statement) } {
-            ROW => take(),
-            DONE => break,
-            code => panic!("SQLite stops with {code}"),
+/// The end of `plates`: nothing where there was no lift.
+extern "C" fn hand_back(context: *mut c_void) {
+    unsafe {
+        let counts = sqlite3_aggregate_context(context, 0);
+        if !counts.is_null() {
+            sqlite3_result_blob(context, counts, COUNTS_BYTES, COPIED);
         }
     }
-    unsafe { sqlite3_reset(statement) };
 }
 
 impl Contender for Sqlite {
     fn append(&mut self, lift: &Lift) {
-        bind(self.insert, &[lift.time as i64, i64::from(lift.load)]);
-        // The note outlives the step below, so SQLite need not copy it.
-        let code = unsafe { sqlite3_bind_blob(self.insert, 3, lift.note.as_ptr(), 20, std::ptr::null()) };
-        assert_eq!(code, OK);
-        run(self.insert, || {});
+        self.insert.bind(&[self.keys.next(lift.time) as i64, i64::from(lift.load)]);
+        self.insert.bind_bytes(3, &lift.note);
+        self.insert.run(|| {});
     }
 
     fn search(&mut self, w: &Window, rows: &mut [u8]) -> usize {
-        let statement = self.search;
-        bind(statement, &[w.t1 as i64, w.t2 as i64, i64::from(w.k1), i64::from(w.k2)]);
+        let statement = self.statement_for(w);
         let mut found = 0;
-        run(statement, || {
+        statement.run(|| {
             let lift = unsafe {
-                assert_eq!(sqlite3_column_bytes(statement, 2), 20);
+                assert_eq!(sqlite3_column_bytes(statement.0, 2), 20);
                 Lift {
-                    time: sqlite3_column_int64(statement, 0) as u64,
-                    load: sqlite3_column_int64(statement, 1) as i32,
-                    note: *sqlite3_column_blob(statement, 2).cast(),
+                    time: time_of(sqlite3_column_int64(statement.0, 0) as u64),
+                    load: sqlite3_column_int64(statement.0, 1) as i32,
+                    note: *sqlite3_column_blob(statement.0, 2).cast(),
                 }
             };
             lift.write(&mut rows[found * RECORD_BYTES..][..RECORD_BYTES]);
@@ -129,27 +99,40 @@ impl Contender for Sqlite {
         found
     }
 
-    fn tally(&mut self, t1: u64, t2: u64) -> [u64; 21] {
+    fn tally(&mut self, t1: u64, t2: u64) -> Counts {
         let statement = self.tally;
-        bind(statement, &[t1 as i64, t2 as i64]);
+        statement.bind(&[lowest(t1) as i64, highest(t2) as i64]);
         let mut counts = [0; 21];
-        run(statement, || unsafe {
-            counts[sqlite3_column_int64(statement, 0) as usize] = sqlite3_column_int64(statement, 1) as u64;
+        statement.run(|| unsafe {
+            if sqlite3_column_bytes(statement.0, 0) == COUNTS_BYTES {
+                counts = sqlite3_column_blob(statement.0, 0).cast::<Counts>().read_unaligned();
+            }
         });
         counts
     }
 
     fn keep_last(&mut self, lifts: usize) {
-        bind(self.forget, &[lifts as i64]);
-        run(self.forget, || {});
+        self.forget.bind(&[lifts as i64 - 1]);
+        self.forget.run(|| {});
+        self.db.exec("ANALYZE");
+    }
+
+    /// By the statistics gathered last; an unfit index ends the run.
+    fn plans(&self) -> Vec<(&'static str, String)> {
+        let kinds = [("a range of loads", LOADS, false), ("one load", ONE_LOAD, true), ("a tally", TALLY, false)];
+        let plan = |(what, sql, by_load)| {
+            let plan = self.db.plan(sql);
+            assert!(plan.starts_with("SEARCH") && plan.contains("by_load") == by_load, "{what}: {plan}");
+            (what, plan)
+        };
+        kinds.map(plan).into()
     }
 }
 
 impl Drop for Sqlite {
     fn drop(&mut self) {
-        for statement in [self.insert, self.search, self.tally, self.forget] {
-            unsafe { sqlite3_finalize(statement) };
-        }
-        unsafe { sqlite3_close(self.db) };
+        let statements = [self.insert, self.loads, self.one_load, self.tally, self.forget];
+        statements.into_iter().for_each(Statement::finish);
+        self.db.close();
     }
 }

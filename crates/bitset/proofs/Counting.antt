@@ -7,7 +7,8 @@ use native.Mathlib.Omega.{arith}
 use lib.Count.{ones, ones-step}
 use lib.Dec.{eqb}
 use lib.ListN.{length, getD, length-append}
-use Rattle.bitset.specs.Set.{bit, has, picked, members}
+use Rattle.bitset.specs.Set.{picked}
+use Rattle.bitset.specs.Inner.Words.{bit, has, members}
 use Rattle.bitset.proofs.Digits.{bit-suc}
 use Rattle.bitset.proofs.Picked.{picked-append}
 

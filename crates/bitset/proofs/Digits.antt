@@ -11,7 +11,7 @@ use lib.Count.{trailingZeros, under}
 use lib.ListN.{length, getD, set}
 use lib.Pow.{pow-lt, pow-add, shl-shr, shr-shr}
 use lib.Seq.{getD-set-same, getD-set-other}
-use Rattle.bitset.specs.Set.{bit}
+use Rattle.bitset.specs.Inner.Words.{bit}
 
 pub bit-suc : (x j : ℕ) → bit x (suc j) ≡ bit (x / 2) j
 bit-suc x j = let e : suc j ≡ 1 + j = omega arith in ap (bit x) e ∙ ap (λ (n : ℕ). n % 2) (sym (shr-shr x 1 j))

@@ -9,8 +9,9 @@ use lib.Count.{trailingZeros, trailing-le}
 use lib.Dec.{eqb}
 use lib.ListN.{getD, set}
 use borrow.Author.Tests.{eq-eqb, ne-eqb}
-use Rattle.bitset.specs.Set.{has, without, picked, members}
-use Rattle.bitset.specs.Emptying.{nextAmong, nextOf}
+use Rattle.bitset.specs.Set.{picked}
+use Rattle.bitset.specs.Inner.Words.{has, without, members}
+use Rattle.bitset.specs.Inner.Emptying.{nextAmong, nextOf}
 use Rattle.bitset.specs.declared.Bits.{Bits}
 use Rattle.bitset.proofs.Digits.{bit-zero, trailing-clear, lowest}
 use Rattle.bitset.proofs.Picked.{picked-same, picked-none, picked-first}

@@ -9,7 +9,8 @@ use lib.Dec.{eqb}
 use lib.ListN.{length, getD, set, length-set, List·getD-eq-default}
 use lib.Seq.{getD-set-same}
 use borrow.Author.Tests.{eqb-true, eq-eqb, ne-eqb}
-use Rattle.bitset.specs.Set.{bit, has, emptyWords, insertIn, insertAll, without, picked, members, elem}
+use Rattle.bitset.specs.Set.{picked, elem}
+use Rattle.bitset.specs.Inner.Words.{Below, bit, has, emptyWords, insertIn, insertAll, without, members}
 use Rattle.bitset.proofs.Digits.{bit-zero, cell-other, or-cell-same, or-cell-other, clear-same, clear-other}
 use Rattle.bitset.proofs.Picked.{picked-same, picked-none, picked-within, Within}
 
@@ -65,11 +66,6 @@ has-empty p = go (p / 64)
     go (suc (suc (suc zero))) = rw bit-zero
     go (suc (suc (suc (suc zero)))) = rw bit-zero
     go (suc (suc (suc (suc (suc i))))) = rw bit-zero
-
--- each number of the list is a place below n
-abbrev pub Below : ℕ → List ℕ → Type 0
-Below n [] = Unit {0}
-Below n (p ∷ ps) = (p < n) × Below n ps
 
 pub length-insertAll : (ws ps : List ℕ) → length (insertAll ws ps) ≡ length ws
 unfolding insertAll

@@ -9,7 +9,7 @@ use lib.Count.{trailingZeros}
 use lib.Dec.{eqb}
 use lib.ListN.{length, getD, set}
 use borrow.Author.Count.{below-more}
-use Rattle.bitset.specs.Emptying.{nextOf}
+use Rattle.bitset.specs.Inner.Emptying.{nextOf}
 use Rattle.bitset.specs.declared.Bits.{Bits}
 use Rattle.bitset.specs.declared.Next.{Next}
 use Rattle.bitset.proofs.Emptying.{next-found}

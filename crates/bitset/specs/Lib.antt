@@ -1,2 +1,2 @@
 pub mod Set
-pub mod Emptying
+pub mod Inner

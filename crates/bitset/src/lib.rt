@@ -6,8 +6,8 @@ ghost use lib.Bits.{bitOr};
 ghost use lib.ListN.{length};
 ghost use lib.Count.{trailingZeros};
 ghost use lib.Count as Count;
-ghost use Rattle.bitset.specs.Set.{emptyWords, insertIn, members};
-ghost use Rattle.bitset.specs.Emptying.{nextOf};
+ghost use Rattle.bitset.specs.Inner.Words.{emptyWords, insertIn, members};
+ghost use Rattle.bitset.specs.Inner.Emptying.{nextOf};
 
 // Places 0 to 319: place p is bit p mod 64 of word p div 64.
 pub struct Bits {

@@ -13,10 +13,13 @@ use lib.Seq.{getD-set-same, getD-set-other}
 use borrow.Author.Tests.{eqb-true, eq-eqb, ne-eqb}
 use Rattle.codec.specs.Area.{repeated}
 use Rattle.codec.proofs.Areas.{length-repeated, getD-repeated}
-use Rattle.bitset.specs.Set.{bit, elem}
+use Rattle.codec.proofs.Truth.{or-second}
+use Rattle.bitset.specs.Set.{elem}
+use Rattle.bitset.specs.Inner.Words.{bit}
 use Rattle.bitset.proofs.Digits.{or-cell-same, or-cell-other}
 use Rattle.bloom.specs.Bloom.{multiplier, bloomBit, mask, isSet, setIn, noted, notedAll, emptySection, sectionOf}
-use Rattle.bloom.specs.Bloom.{atBits, holds, someSet, mayHold}
+use Rattle.bloom.specs.Bloom.{atBits, someSet, mayHold}
+use Rattle.bloom.specs.Inner.Holds.{holds}
 
 pub third : (n : ℕ) → (n ≡ 0 → ⊥) → (n ≡ 1 → ⊥) → multiplier n ≡ 3_266_489_917
 unfolding multiplier
@@ -79,10 +82,6 @@ module _ (s : List ℕ) (code : ℕ) (z : Section s) where
       ∙ ap (λ (b : Bool). eqb d (bloomBit 2 u) || (eqb d (bloomBit 1 u) || b))
       (set-bits s (bloomBit 0 u) d (omega (arith, bit-below 0 u)))
 
-or-true : (a b : Bool) → b ≡ true → (a || b) ≡ true
-or-true true b e = refl
-or-true false b e = e
-
 -- a bit that is set stays set
 pub noted-keeps : (s : List ℕ) (code d : ℕ) → Section s → isSet s d ≡ true → isSet (noted s code) d ≡ true
 noted-keeps s code d z e =
@@ -90,7 +89,7 @@ noted-keeps s code d z e =
     ∙ kept (eqb d (bloomBit 2 (code - 1))) (eqb d (bloomBit 1 (code - 1))) (eqb d (bloomBit 0 (code - 1)))
   where
     kept : (a b c : Bool) → (a || (b || (c || isSet s d))) ≡ true
-    kept a b c = or-true a (b || (c || isSet s d)) (or-true b (c || isSet s d) (or-true c (isSet s d) e))
+    kept a b c = or-second a (b || (c || isSet s d)) (or-second b (c || isSet s d) (or-second c (isSet s d) e))
 
 all-three : (a b c : Bool) → a ≡ true → b ≡ true → c ≡ true → (a && (b && c)) ≡ true
 all-three true true c p q r = r
@@ -121,10 +120,10 @@ noted-holds s code z =
     first : isSet (noted s code) (b 0) ≡ true
     first =
         noted-bits s code z (b 0)
-        ∙ rw (eq-eqb (b 0) (b 0) refl) (or-true (eqb (b 0) (b 2)) _ (or-true (eqb (b 0) (b 1)) true refl))
+        ∙ rw (eq-eqb (b 0) (b 0) refl) (or-second (eqb (b 0) (b 2)) _ (or-second (eqb (b 0) (b 1)) true refl))
 
     second : isSet (noted s code) (b 1) ≡ true
-    second = noted-bits s code z (b 1) ∙ rw (eq-eqb (b 1) (b 1) refl) (or-true (eqb (b 1) (b 2)) true refl)
+    second = noted-bits s code z (b 1) ∙ rw (eq-eqb (b 1) (b 1) refl) (or-second (eqb (b 1) (b 2)) true refl)
 
     last : isSet (noted s code) (b 2) ≡ true
     last = noted-bits s code z (b 2) ∙ rw (eq-eqb (b 2) (b 2) refl)
@@ -188,7 +187,7 @@ some-at : (ss : List (List ℕ)) (j b : ℕ) → j < length ss → isSet (getD s
 unfolding someSet
 some-at [] j b h e = absurd (omega arith)
 some-at (s ∷ ss) zero b h e = rw e
-some-at (s ∷ ss) (suc j) b h e = or-true (isSet s b) (someSet ss b) (some-at ss j b (omega arith) e)
+some-at (s ∷ ss) (suc j) b h e = or-second (isSet s b) (someSet ss b) (some-at ss j b (omega arith) e)
 
 -- a segment is not passed over where one of its sections has all three bits
 pub may-hold-at : (ss : List (List ℕ)) (j code : ℕ) → j < length ss → holds (getD ss j []) code ≡ true → mayHold ss code ≡ true

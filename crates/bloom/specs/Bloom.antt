@@ -42,8 +42,15 @@ unfoldable pub notedAll : List ℕ → List ℕ → List ℕ
 notedAll s [] = s
 notedAll s (code ∷ codes) = notedAll (noted s code) codes
 
+-- "sections of 128", 1,024 bits, each of 64 lifts
+abbrev pub sectionWidth : ℕ
+sectionWidth = 128
+
+abbrev pub liftsPerSection : ℕ
+liftsPerSection = 64
+
 unfoldable pub emptySection : List ℕ
-emptySection = repeated 128 0
+emptySection = repeated sectionWidth 0
 
 -- the section of up to 64 lifts, by their codes
 unfoldable pub sectionOf : List ℕ → List ℕ
@@ -52,10 +59,6 @@ sectionOf codes = notedAll emptySection codes
 -- whether a test passes at each of a code's three bits
 unfoldable pub atBits : (ℕ → Bool) → ℕ → Bool
 atBits f code = f (bloomBit 0 (code - 1)) && (f (bloomBit 1 (code - 1)) && f (bloomBit 2 (code - 1)))
-
--- whether a section has all three bits of a code
-abbrev pub holds : List ℕ → ℕ → Bool
-holds s code = atBits (isSet s) code
 
 -- whether some section has bit b
 unfoldable pub someSet : List (List ℕ) → ℕ → Bool

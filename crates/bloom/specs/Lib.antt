@@ -1,2 +1,3 @@
 pub mod Bloom
 pub mod Pages
+pub mod Inner

@@ -1,10 +1,17 @@
 // Bloom sections of 1,024 bits, and the two Bloom pages (document 01, "Bloom and skip list").
+use flash::PAGE_BYTES;
 ghost use mathlib.Core.Path.{_≡_};
 ghost use mathlib.Core.List.{[]};
 ghost use Prim.Native.Nat.{_+_, _*_, _-_, _^_, _%_, _/_, _<_, _≤_};
 ghost use lib.ListN.{length, getD};
+ghost use Rattle.flash.specs.Chip.{norWidth};
 ghost use Rattle.bloom.specs.Bloom.{bloomBit, setIn, inByte, noted, emptySection, someSet, mayHold};
 ghost use Rattle.bloom.specs.Pages.{sectionCount, fragmentLength, sectionsFrom, bloomPage, sectionIn, sectionsIn};
+
+// "sections of 128", 1,024 bits, each of 64 lifts
+pub const SECTION_BYTES: usize = 128;
+
+pub const LIFTS_PER_SECTION: usize = 64;
 
 // Which of a load's three bits.
 pub fn bloom_bit(code: u32, which: u8) -> u16
@@ -25,7 +32,7 @@ fn cut(p: u64) -> u16
     ((p % 4294967296) / 4194304) as u16
 }
 
-pub fn set_bit(section: [u8; 128], b: u16) -> [u8; 128]
+pub fn set_bit(section: [u8; SECTION_BYTES], b: u16) -> [u8; SECTION_BYTES]
     requires { ⌜ b < 1024 ⌝ }
     ensures { λ r. ⌜ r ≡ setIn section b ⌝ }
 {
@@ -36,7 +43,7 @@ pub fn set_bit(section: [u8; 128], b: u16) -> [u8; 128]
 }
 
 // The three bits of a load.
-pub fn note(section: [u8; 128], code: u32) -> [u8; 128]
+pub fn note(section: [u8; SECTION_BYTES], code: u32) -> [u8; SECTION_BYTES]
     requires { ⌜ 1 ≤ code ⌝ }
     ensures { λ r. ⌜ r ≡ noted section code ⌝ }
 {
@@ -45,16 +52,16 @@ pub fn note(section: [u8; 128], code: u32) -> [u8; 128]
     set_bit(two, bloom_bit(code, 2))
 }
 
-pub fn empty_section() -> [u8; 128]
+pub fn empty_section() -> [u8; SECTION_BYTES]
     ensures { λ r. ⌜ r ≡ emptySection ⌝ }
 {
-    [0u8; 128]
+    [0u8; SECTION_BYTES]
 }
 
 pub fn sections_of(count: u16) -> usize
     ensures { λ r. ⌜ r ≡ sectionCount count ⌝ }
 {
-    ((count as usize) + 63) / 64
+    ((count as usize) + (LIFTS_PER_SECTION - 1)) / LIFTS_PER_SECTION
 }
 
 // The fragment length for a number of sections.
@@ -68,13 +75,13 @@ pub fn fragment_of(sections: usize) -> usize
 
 // Byte `from` of section j, with 0 past its end: a whole section is in NOR, a part-filled one in the buffer.
 fn section_byte(nor: &[u8], buffer: &[u8], count: u16, j: usize, from: usize) -> u8
-    requires { ⌜ (length (now nor) ≡ 6144) × (count ≤ 320) × (j < sectionCount count) × (length (now buffer) ≡ 128) ⌝ }
+    requires { ⌜ (length (now nor) ≡ norWidth) × (count ≤ 320) × (j < sectionCount count) × (length (now buffer) ≡ 128) ⌝ }
     ensures { λ r. ⌜ r ≡ getD (getD (sectionsFrom (now (nor .entry)) (now (buffer .entry)) count) j []) from 0 ⌝ }
 {
     if 128 <= from {
         return 0;
     }
-    if (j + 1) * 64 <= count as usize {
+    if (j + 1) * LIFTS_PER_SECTION <= count as usize {
         return nor[4608 + j * 128 + from];
     }
     buffer[from]
@@ -82,7 +89,7 @@ fn section_byte(nor: &[u8], buffer: &[u8], count: u16, j: usize, from: usize) ->
 
 // Byte k of Bloom page i.
 fn page_byte(nor: &[u8], buffer: &[u8], count: u16, i: usize, k: usize) -> u8
-    requires { ⌜ (length (now nor) ≡ 6144) × (1 ≤ count) × (count ≤ 320) × (i < 2) × (k < 512) × (length (now buffer) ≡ 128) ⌝ }
+    requires { ⌜ (length (now nor) ≡ norWidth) × (1 ≤ count) × (count ≤ 320) × (i < 2) × (k < 512) × (length (now buffer) ≡ 128) ⌝ }
     ensures { λ r. ⌜ r ≡ getD (bloomPage (sectionsFrom (now (nor .entry)) (now (buffer .entry)) count) i) k 0 ⌝ }
 {
     let s = sections_of(count);
@@ -95,11 +102,11 @@ fn page_byte(nor: &[u8], buffer: &[u8], count: u16, i: usize, k: usize) -> u8
 }
 
 // Bloom page i, 0 or 1, of the open segment.
-pub fn bloom_page(nor: &[u8], buffer: [u8; 128], count: u16, i: usize) -> [u8; 512]
-    requires { ⌜ (length (now nor) ≡ 6144) × (1 ≤ count) × (count ≤ 320) × (i < 2) ⌝ }
+pub fn bloom_page(nor: &[u8], buffer: [u8; SECTION_BYTES], count: u16, i: usize) -> [u8; PAGE_BYTES]
+    requires { ⌜ (length (now nor) ≡ norWidth) × (1 ≤ count) × (count ≤ 320) × (i < 2) ⌝ }
     ensures { λ r. ⌜ r ≡ bloomPage (sectionsFrom (now (nor .entry)) buffer count) i ⌝ }
 {
-    let mut d = [0u8; 512];
+    let mut d = [0u8; PAGE_BYTES];
     let mut k: usize = 0;
     while k < 512 {
         let b = page_byte(nor, &buffer, count, i, k);

@@ -1,6 +1,5 @@
--- Each return of `chips_ground`, `lift_ground` and `query_ground` is what the definition gives there, and what a number 0 says.
--- By the tests' facts.
--- Assumes nothing.
+-- Each return of `chips_ground`, `lift_ground` and `query_ground` is what the definition gives there, and what a number 0 says. By
+-- the tests' facts. Assumes nothing.
 use mathlib.Core.Path.{_≡_}
 use mathlib.Core.Bool.{Bool, true, false, not, _&&_, _||_}
 use Prim.Native.Nat.{ℕ, _*_, _≤_, _<_}

@@ -11,10 +11,10 @@ use lib.ListN.{length, getD, set, take, drop, length-append, length-drop, List·
 use lib.Seq.{drop-cons, getD-drop, getD-at, take-suc, take-suc-set, take-all}
 use lib.Signed.{ltZ, leZ}
 use borrow.Author.Tests.{lt-ltb, le-ltb, lt-leb, eq-eqb, ne-eqb, not-true, not-false}
+use Rattle.codec.proofs.Truth.{and-left, and-right}
 use Rattle.lift.specs.Limits.{loadOk, stored}
 use Rattle.bounds.specs.Bounds.{serialsOk, spanOk, loadsOk}
 use Rattle.bounds.specs.Lifts.{shifted, pushed, lowWith, highWith}
-use Rattle.bounds.proofs.Within.{and-left, and-right}
 
 and-false : (a b : Bool) → false ≡ ((a && false) && b)
 and-false true b = refl

@@ -7,30 +7,10 @@ use native.Mathlib.Omega.{arith}
 use lib.Dec.{eqb, leb, ltb}
 use lib.IntN.{ℤ}
 use borrow.Author.Tests.{ltb-true, ltb-false, leb-true, leb-false, eqb-true, eqb-false, ne-eqb, not-false}
+use Rattle.codec.proofs.Truth.{and-left, and-right, or-left, or-other, or-right}
 use Rattle.lift.specs.Limits.{timeOk, loadOk}
 use Rattle.bounds.specs.Bounds.{exactly, serialsOk, countsOk, spanOk}
 use Rattle.bounds.specs.Grounds.{ground, nandBad, norBad, formatGround, liftGround}
-
-pub and-left : (a b : Bool) → (a && b) ≡ true → a ≡ true
-and-left true b e = refl
-and-left false b e = e
-
-pub and-right : (a b : Bool) → (a && b) ≡ true → b ≡ true
-and-right true b e = e
-and-right false b e = cc
-
-or-left : (a b : Bool) → (a || b) ≡ false → a ≡ false
-or-left true b e = e
-or-left false b e = refl
-
-or-right : (a b : Bool) → (a || b) ≡ false → b ≡ false
-or-right true b e = cc
-or-right false b e = e
-
--- where the first of two tests fails, the second holds
-or-other : (a b : Bool) → a ≡ false → (a || b) ≡ true → b ≡ true
-or-other true b f e = cc
-or-other false b f e = e
 
 -- a ground that does not hold leaves the others
 pub ground-not : (n : ℕ) (holds : Bool) (rest : ℕ) → (n ≡ 0 → ⊥) → ground n holds rest ≡ 0 → holds ≡ false

@@ -1,9 +1,11 @@
 -- Grounds 1, 2 and 4 to 8 on plain numbers, in checking order (document 01, "Twelve grounds"). Assumes nothing.
 use mathlib.Core.Bool.{Bool, cond, not, _&&_, _||_}
-use Prim.Native.Nat.{ℕ, _*_}
+use Prim.Native.Nat.{ℕ, _-_, _*_}
 use lib.Dec.{eqb, leb, ltb}
 use lib.IntN.{ℤ}
 use lib.Signed.{ltZ}
+use Rattle.bounds.specs.Bounds.{lastSerial}
+use Rattle.flash.specs.Chip.{slotWidth, norWidth}
 use Rattle.lift.specs.Limits.{timeOk, loadOk}
 
 -- number n if the ground holds, else what the later grounds give
@@ -11,12 +13,18 @@ abbrev pub ground : ℕ → Bool → ℕ → ℕ
 ground n holds rest = cond holds n rest
 
 -- "1. S is outside 2 to 4,096, or NAND length is not S slots."
+abbrev pub slotsLeast : ℕ
+slotsLeast = 2
+
+abbrev pub slotsMost : ℕ
+slotsMost = 4096
+
 abbrev pub nandBad : ℕ → ℕ → Bool
-nandBad nandLength slots = ltb slots 2 || (ltb 4096 slots || not (eqb nandLength (slots * 16384)))
+nandBad nandLength slots = ltb slots slotsLeast || (ltb slotsMost slots || not (eqb nandLength (slots * slotWidth)))
 
 -- "2. NOR length is not 6,144."
 abbrev pub norBad : ℕ → Bool
-norBad norLength = not (eqb norLength 6144)
+norBad norLength = not (eqb norLength norWidth)
 
 -- both chips
 unfoldable pub formatGround : ℕ → ℕ → ℕ → ℕ
@@ -26,7 +34,7 @@ formatGround nandLength norLength slots = ground 1 (nandBad nandLength slots) (g
 -- open serial 999,999,998 or more."
 unfoldable pub liftGround : ℕ → ℤ → ℕ → ℕ → ℕ → ℕ
 liftGround time load next current rest =
-    ground 4 (not (timeOk time)) (ground 5 (not (loadOk load)) (ground 7 (ltb time next) (ground 8 (leb 999999998 current) rest)))
+    ground 4 (not (timeOk time)) (ground 5 (not (loadOk load)) (ground 7 (ltb time next) (ground 8 (leb (lastSerial - 1) current) rest)))
 
 -- a search's window: both times, then both loads, then "6. A range runs backwards."
 unfoldable pub queryGround : ℕ → ℕ → ℤ → ℤ → ℕ

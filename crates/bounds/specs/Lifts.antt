@@ -6,10 +6,11 @@ use lib.Dec.{eqb, ltb}
 use lib.IntN.{ℤ, pos}
 use lib.ListN.{drop, set, replicate}
 use lib.Signed.{ltZ}
+use Rattle.lift.specs.Limits.{loadsKept}
 
 -- "Unused list fields are 0"
 abbrev pub noLoads : List ℤ
-noLoads = replicate 13 (pos 0)
+noLoads = replicate loadsKept (pos 0)
 
 -- the loads without the oldest, and with a new one behind the others
 unfoldable pub shifted : List ℤ → ℤ → List ℤ
@@ -17,7 +18,7 @@ shifted loads load = drop 1 loads ++ (load ∷ [])
 
 -- the last 13 loads with a new one, "oldest first": at its place until there are 13, then behind the others
 unfoldable pub pushed : List ℤ → ℕ → ℤ → List ℤ
-pushed loads count load = cond (ltb count 13) (set loads count load) (shifted loads load)
+pushed loads count load = cond (ltb count loadsKept) (set loads count load) (shifted loads load)
 
 -- the low and the high load with a new one
 unfoldable pub lowWith : ℕ → ℤ → ℤ → ℤ

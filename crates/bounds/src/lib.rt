@@ -1,6 +1,7 @@
 // Grounds 1 to 8 and the bounds of the state, on plain numbers; the last loads, low and high after a lift (document 01, "Twelve
 // grounds", "State").
 use form::Form;
+use lift::LOADS_KEPT;
 ghost use mathlib.Core.Path.{_≡_};
 ghost use mathlib.Core.Bool.{true};
 ghost use mathlib.Core.List.{map};
@@ -15,22 +16,15 @@ const SLOTS_LEAST: u64 = 2;
 
 const SLOTS_MOST: u64 = 4096;
 
-const SLOT_BYTES: u64 = 16384;
-
-const NOR_BYTES: usize = 6144;
+const SLOT_BYTES: u64 = flash::SLOT_BYTES as u64;
 
 // "serials 1 to 999,999,999"
 const SERIAL_MOST: u32 = 999999999;
 
-// "count 0–320; buckets 0–36"
-const LIFTS_MOST: u16 = 320;
-
-const BUCKETS_MOST: u8 = 36;
-
 // Form 1: next "at most 999,999,999,999,999"; a start, and in form 0 every time, "at most 1,000,000,000,000,000"
-const NEXT_MOST: u64 = 999999999999999;
+const NEXT_MOST: u64 = lift::TIME_LIMIT;
 
-const START_MOST: u64 = 1000000000000000;
+const START_MOST: u64 = lift::TIME_LIMIT + 1;
 
 // The range of S comes first: the bytes of so many slots fit.
 pub fn chips_ground(nand: usize, nor: usize, slots: u64) -> u8
@@ -45,7 +39,7 @@ pub fn chips_ground(nand: usize, nor: usize, slots: u64) -> u8
     if nand as u64 != slots * SLOT_BYTES {
         return 1;
     }
-    if nor != NOR_BYTES {
+    if nor != flash::NOR_BYTES {
         return 2;
     }
     0
@@ -68,7 +62,7 @@ pub fn counts_ok(current: u32, count: u16, buckets: u8) -> bool
     let empty = count == 0;
     let bare = buckets == 0;
     let exact = (bare & empty) | (!bare & !empty);
-    ((count <= LIFTS_MOST) & (buckets <= BUCKETS_MOST))
+    ((count <= lift::LIFTS_MOST) & (buckets <= tree::BUCKETS_MOST))
         & (exact & (!(current == SERIAL_MOST) | empty))
 }
 
@@ -108,7 +102,7 @@ pub fn span_ok(count: u16, low: i32, high: i32) -> bool
     both & ((count == 0) | (low <= high))
 }
 
-pub fn loads_ok(loads: [i32; 13]) -> bool
+pub fn loads_ok(loads: [i32; LOADS_KEPT]) -> bool
     ensures { λ r. ⌜ r ≡ loadsOk loads ⌝ }
 {
     let mut i: usize = 0;
@@ -156,11 +150,11 @@ pub fn query_ground(t1: u64, t2: u64, k1: i32, k2: i32) -> u8
 }
 
 // The loads as stored.
-pub fn stored_loads(loads: [i32; 13]) -> [u32; 13]
+pub fn stored_loads(loads: [i32; LOADS_KEPT]) -> [u32; LOADS_KEPT]
     requires { ⌜ loadsOk loads ≡ true ⌝ }
     ensures { λ r. ⌜ r ≡ map Limits.stored loads ⌝ }
 {
-    let mut c = [0u32; 13];
+    let mut c = [0u32; LOADS_KEPT];
     let mut i: usize = 0;
     while i < 13 {
         let x = loads[i];
@@ -171,7 +165,7 @@ pub fn stored_loads(loads: [i32; 13]) -> [u32; 13]
     c
 }
 
-fn shifted(loads: [i32; 13], load: i32) -> [i32; 13]
+fn shifted(loads: [i32; LOADS_KEPT], load: i32) -> [i32; LOADS_KEPT]
     ensures { λ r. ⌜ r ≡ Lifts.shifted loads load ⌝ }
 {
     let mut l = loads;
@@ -186,7 +180,7 @@ fn shifted(loads: [i32; 13], load: i32) -> [i32; 13]
 }
 
 // The last 13 loads with a new one.
-pub fn pushed(loads: [i32; 13], count: u16, load: i32) -> [i32; 13]
+pub fn pushed(loads: [i32; LOADS_KEPT], count: u16, load: i32) -> [i32; LOADS_KEPT]
     ensures { λ r. ⌜ r ≡ Lifts.pushed loads count load ⌝ }
 {
     let n = count as usize;
@@ -222,8 +216,8 @@ pub fn high_after(count: u16, high: i32, load: i32) -> i32
     high
 }
 
-pub fn no_loads() -> [i32; 13]
+pub fn no_loads() -> [i32; LOADS_KEPT]
     ensures { λ r. ⌜ r ≡ Lifts.noLoads ⌝ }
 {
-    [0i32; 13]
+    [0i32; LOADS_KEPT]
 }

@@ -4,12 +4,13 @@ use mathlib.Core.Path.{_≡_, refl, sym, ap, subst, _∙_}
 use mathlib.Core.Logic.{_⊎_, inl, inr, ⊎-elim}
 use mathlib.Core.Bool.{Bool, true, false, _&&_}
 use mathlib.Core.List.{List, [], _∷_, _++_, append-assoc}
-use Prim.Native.Nat.{ℕ, zero, suc, _+_, _-_, _*_, _/_, _%_, _≤_, _<_, min}
+use Prim.Native.Nat.{ℕ, zero, suc, _+_, _-_, _*_, _/_, _%_, _≤_, _<_}
 use native.Mathlib.Nat.{div-lt-iff-lt-mul, div-add-mod', mod-lt}
 use native.Mathlib.Decide.{decLt, decLe}
 use native.Mathlib.Omega.{arith}
 use lib.ListN.{length, take, drop, getD, length-append, length-take, length-drop, replicate, length-replicate, getD-replicate}
 use lib.ListN.{List·getD-append, replicate-append-replicate}
+use lib.Seq.{take-append-le, drop-append-le, take-append-add, drop-append-add}
 use lib.Seq.{length-take-le, drop-drop, take-all, take-add, take-at, drop-at, getD-take, getD-drop, getD-append-add, ext-getD}
 use borrow.Author.Tests.{eqb-true}
 use lib.Dec.{eqb}
@@ -244,3 +245,22 @@ splice-next s at p to q e h =
     sym (drop-drop (length q) to _) ∙ ap (drop (length q)) (drop-at (take at s ++ p) _ to m)
     ∙ drop-drop (length q) (at + length p) s ∙ ap (λ (n : ℕ). drop n s) n in
     rw (t, d, append-assoc (take at s) p q)
+
+-- ---- a write into one of two joined areas
+
+pub splice-left : (p q : List ℕ) (at : ℕ) (r : List ℕ) → at + length r ≤ length p → splice (p ++ q) at r ≡ splice p at r ++ q
+unfolding splice
+splice-left p q at r h =
+    rw (
+      take-append-le at p q (omega arith),
+      drop-append-le (at + length r) p q h,
+      append-assoc (take at p ++ r) (drop (at + length r) p) q,
+    )
+
+pub splice-right : (p q : List ℕ) (k to : ℕ) (r : List ℕ) → length p + k ≡ to → splice (p ++ q) to r ≡ p ++ splice q k r
+unfolding splice
+splice-right p q k to r e =
+    let d : to + length r ≡ length p + (k + length r) = omega arith in
+    rw (d, ← e, take-append-add p q k, drop-append-add p q (k + length r))
+    (ap (λ (s : List ℕ). s ++ drop (k + length r) q) (append-assoc p (take k q) r)
+    ∙ append-assoc p (take k q ++ r) (drop (k + length r) q))

@@ -1,3 +1,4 @@
 pub mod Areas
 pub mod Numbers
 pub mod Loops
+pub mod Truth

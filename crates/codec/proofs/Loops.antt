@@ -1,17 +1,16 @@
 -- The turns of the loops of `get`, `put`, `copy`, `fill` and `all_ones`. Assumes nothing.
-use mathlib.Core.Path.{_≡_, refl, sym, ap, _∙_}
+use mathlib.Core.Path.{_≡_, refl}
 use mathlib.Core.Bool.{Bool, true, false, _&&_}
-use mathlib.Core.List.{List, [], _∷_, _++_}
+use mathlib.Core.List.{List, _∷_}
 use Prim.Native.Nat.{ℕ, zero, suc, _+_, _-_, _*_, _/_, _%_, _^_, _≤_, _<_}
 use native.Mathlib.Nat.{pow-suc, pow-le-pow-right, lt-of-lt-of-le}
 use native.Mathlib.Numerals.{add-one}
 use native.Mathlib.Omega.{arith}
 use lib.Dec.{eqb}
-use lib.ListN.{length, take, drop, getD, set}
+use lib.ListN.{length, take, getD, set}
 use lib.Seq.{sets, sets-eq, drop-cons, paste, take-all}
 use Rattle.codec.specs.Area.{part, splice, repeated, allOnes}
 use Rattle.codec.specs.Number.{le, bytes, numberAt}
-use Rattle.codec.proofs.Numbers.{length-bytes}
 
 -- ---- get: acc is the number in the bytes passed, the last n - i
 

@@ -1,11 +1,11 @@
 -- Laws of little-endian numbers, over every width. Assumes nothing.
-use mathlib.Core.Path.{_≡_, refl, ap, ap₂, _∙_}
+use mathlib.Core.Path.{_≡_, refl, ap, _∙_}
 use mathlib.Core.List.{List, [], _∷_}
 use Prim.Native.Nat.{ℕ, zero, suc, _+_, _*_, _/_, _%_, _^_, _≤_, _<_}
 use native.Mathlib.Nat.{pow-suc, pow-zero}
 use native.Mathlib.Omega.{arith}
 use lib.ListN.{length, getD}
-use Rattle.codec.specs.Area.{part, splice}
+use Rattle.codec.specs.Area.{splice}
 use Rattle.codec.specs.Number.{le, bytes, numberAt}
 use Rattle.codec.proofs.Areas.{part-splice}
 

@@ -1,6 +1,6 @@
 // Little-endian numbers and runs of bytes in a byte area (document 01, "Chips and slots").
 ghost use mathlib.Core.Path.{_≡_};
-ghost use Prim.Native.Nat.{ℕ, _+_, _≤_, _<_, _^_};
+ghost use Prim.Native.Nat.{_+_, _≤_, _<_, _^_};
 ghost use lib.ListN.{length};
 ghost use Rattle.codec.specs.Area.{part, splice, repeated, allOnes};
 ghost use Rattle.codec.specs.Number.{bytes, numberAt};

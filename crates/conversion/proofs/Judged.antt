@@ -7,6 +7,7 @@ use native.Mathlib.Omega.{arith}
 use lib.Dec.{eqb, leb}
 use lib.ListN.{length}
 use borrow.Author.Tests.{leb-true, le-ltb, eq-eqb, ne-eqb, not-false}
+use Rattle.codec.proofs.Truth.{and-left, and-right, or-left, or-right}
 use Rattle.form.specs.declared.Form.{Form}
 use Rattle.form.specs.declared.Form.the-variants.{Old, New}
 use Rattle.segment.specs.Header.{headerGood, headerIn}
@@ -18,13 +19,15 @@ use Rattle.store.specs.declared.OldState.{OldState}
 use Rattle.store.specs.declared.State.{State}
 use Rattle.store.specs.Bounds.{headsOk, withinBounds}
 use Rattle.store.specs.World.{World, world, liveTime}
-use Rattle.store.specs.Calls.{Outcome, formatted, boundsGround}
+use Rattle.store.specs.Calls.{Outcome, formatted}
 use Rattle.store.proofs.Grounds.{Standing, standing-in}
-use Rattle.conversion.specs.Carried.{other, headerOf, nandInto, stateInto, firstTime, worldInto}
-use Rattle.conversion.specs.Retained.{anyClosed, isForm, isDamaged, retainedTimes, rises, anyLate, hasLate}
-use Rattle.conversion.specs.Outcome.{cannotGoBack, carryGround, carryOutcome, oldAnswered}
-use Rattle.conversion.specs.Pieces.{serialsOf, lengthsGround, storeOf, firstGrounds, backGrounds, NoGround, CountsFit}
-use Rattle.conversion.proofs.Seeking.{or-left, or-right, none-has}
+use Rattle.store.specs.Inner.Pieces.{boundsGround}
+use Rattle.carry.specs.Carried.{other, headerOf, nandInto, stateInto, firstTime, worldInto}
+use Rattle.retained.specs.Retained.{anyClosed, isForm, isDamaged, retainedTimes, rises, anyLate, hasLate}
+use Rattle.conversion.specs.Outcome.{cannotGoBack, carryGround, carryOutcome, oldReturned}
+use Rattle.retained.specs.Inner.Loops.{CountsFit}
+use Rattle.conversion.specs.Inner.Pieces.{serialsOf, lengthsGround, storeOf, earlyGrounds, backGrounds, NoGround}
+use Rattle.retained.proofs.Seeking.{none-has}
 
 -- ---- grounds 1 and 2 of both stores
 
@@ -100,10 +103,10 @@ times-next : (f : Form) (current count next live start : ℕ) → timesOk f curr
 unfolding timesOk
 times-next Old current count next live start t =
     leb-true next 1000000000000000
-    (Within.and-left _ _ (Within.and-left (leb next 1000000000000000 && (leb live 1000000000000000 && leb start 1000000000000000)) _ t))
+    (and-left _ _ (and-left (leb next 1000000000000000 && (leb live 1000000000000000 && leb start 1000000000000000)) _ t))
 times-next New current count next live start t =
     let l = leb-true next 999999999999999
-    (Within.and-left _ _ (Within.and-left (leb next 999999999999999 && leb start 1000000000000000) _ t)) in
+    (and-left _ _ (and-left (leb next 999999999999999 && leb start 1000000000000000) _ t)) in
     omega arith
 
 pub next-most : (f : Form) (s : State) (live slots : ℕ) → withinBounds f s live slots ≡ true → s .next ≤ 1000000000000000
@@ -114,7 +117,7 @@ next-most f s live slots e =
     let c = timesOk f (s .current) (s .count) (s .next) live (s .start) in
     let d = spanOk (s .count) (s .low) (s .high) && (loadsOk (s .loads) && headsOk (s .heads) slots) in
     times-next f (s .current) (s .count) (s .next) live (s .start)
-    (Within.and-left c d (Within.and-right b (c && d) (Within.and-right a (b && (c && d)) e)))
+    (and-left c d (and-right b (c && d) (and-right a (b && (c && d)) e)))
 
 -- ---- grounds 1, 2, 3, 13 and 10
 
@@ -130,10 +133,10 @@ module _ (f : Form) (s : State) (live : ℕ) (nand : List ℕ) (nor slots to-nan
   damaged = anyClosed (isDamaged (other f) slots (s .current)) (storeOf f s live nand []) slots
 
   abbrev all : ℕ
-  all = firstGrounds f s live nand nor slots to-nand to-nor
+  all = earlyGrounds f s live nand nor slots to-nand to-nor
 
   pub by-lengths : (n ≡ 0 → ⊥) → n ≡ all
-  unfolding firstGrounds lengthsGround
+  unfolding earlyGrounds lengthsGround
   by-lengths h = go (nandBad (length nand) slots || nandBad to-nand slots) (norBad nor || norBad to-nor) lengths
     where
       go : (a b : Bool) → n ≡ ground 1 a (ground 2 b 0)
@@ -144,7 +147,7 @@ module _ (f : Form) (s : State) (live : ℕ) (nand : List ℕ) (nor slots to-nan
 
   module _ (z : n ≡ 0) where
     past : all ≡ ground 3 (not bounded) (ground 13 otherForm (ground 10 damaged 0))
-    unfolding firstGrounds lengthsGround
+    unfolding earlyGrounds lengthsGround
     past = go (nandBad (length nand) slots || nandBad to-nand slots) (norBad nor || norBad to-nor) lengths
       where
         go : (a b : Bool) → n ≡ ground 1 a (ground 2 b 0)
@@ -195,8 +198,8 @@ pub record Free (f : Form) (s : State) (live : ℕ) (nand : List ℕ) (nor slots
   pub none : NoGround f s live nand slots
 
 pub free : (f : Form) (s : State) (live : ℕ) (nand : List ℕ) (nor slots to-nand to-nor : ℕ)
-    → firstGrounds f s live nand nor slots to-nand to-nor ≡ 0 → Free f s live nand nor slots to-nand to-nor
-unfolding firstGrounds lengthsGround
+    → earlyGrounds f s live nand nor slots to-nand to-nor ≡ 0 → Free f s live nand nor slots to-nand to-nor
+unfolding earlyGrounds lengthsGround
 free f s live nand nor slots to-nand to-nor e =
     let a = nandBad (length nand) slots || nandBad to-nand slots in
     let b = norBad nor || norBad to-nor in
@@ -232,7 +235,7 @@ counts-fit f s live nand slots g n a b =
     let e : isDamaged (other f) slots (s .current) n h ≡ false =
     subst (λ (m : ℕ). isDamaged (other f) slots (s .current) m (headerOf nand slots m) ≡ false) k d in
     let own = not-false _ e in
-    let good = Within.and-left (headerGood (other f) h slots (s .current)) _ (Within.and-right (isForm (other f) n h) _ own) in
+    let good = and-left (headerGood (other f) h slots (s .current)) _ (and-right (isForm (other f) n h) _ own) in
     header-facts (other f) h slots (s .current) good .counts .most
 
 -- ---- ground 14
@@ -257,7 +260,7 @@ module _ (nand : List ℕ) (s : State) (slots : ℕ) (r : Bool) (judged : r ≡ 
   late-node l d t e u g = rw (← judged, t, ← e, u, ← g)
 
 -- going back: the first five grounds, then 14
-module _ (s : State) (nand : List ℕ) (nor slots to-nand to-nor n : ℕ) (judged : n ≡ firstGrounds Old s 0 nand nor slots to-nand to-nor) where
+module _ (s : State) (nand : List ℕ) (nor slots to-nand to-nor n : ℕ) (judged : n ≡ earlyGrounds Old s 0 nand nor slots to-nand to-nor) where
   abbrev stays : Bool
   stays = cannotGoBack (world nand [] s) slots
 
@@ -271,7 +274,7 @@ module _ (s : State) (nand : List ℕ) (nor slots to-nand to-nor n : ℕ) (judge
   rows false false false false false q = rw q
 
   both : backGrounds s nand nor slots to-nand to-nor ≡ cond (eqb n 0) (ground 14 stays 0) n
-  unfolding backGrounds firstGrounds
+  unfolding backGrounds earlyGrounds
   both =
       rows (nandBad (length nand) slots || nandBad to-nand slots) (norBad nor || norBad to-nor) (not (withinBounds New s 0 slots))
       (anyClosed (isForm Old) (world nand [] s) slots) (anyClosed (isDamaged New slots (s .current)) (world nand [] s) slots) judged
@@ -284,8 +287,8 @@ module _ (s : State) (nand : List ℕ) (nor slots to-nand to-nor n : ℕ) (judge
 
 -- the grounds of each call
 pub there-ground : (s : State) (live : ℕ) (nand nor : List ℕ) (slots to-nand to-nor : ℕ)
-    → firstGrounds New s live nand (length nor) slots to-nand to-nor ≡ carryGround New (storeOf New s live nand nor) slots to-nand to-nor
-unfolding firstGrounds carryGround
+    → earlyGrounds New s live nand (length nor) slots to-nand to-nor ≡ carryGround New (storeOf New s live nand nor) slots to-nand to-nor
+unfolding earlyGrounds carryGround
 there-ground s live nand nor slots to-nand to-nor = refl
 
 pub back-ground : (s : State) (nand nor : List ℕ) (slots to-nand to-nor : ℕ)
@@ -295,8 +298,8 @@ back-ground s nand nor slots to-nand to-nor = refl
 
 -- the first five hold for neither call that is accepted
 pub first-free : (s : State) (nand : List ℕ) (nor slots to-nand to-nor : ℕ) → backGrounds s nand nor slots to-nand to-nor ≡ 0
-    → firstGrounds Old s 0 nand nor slots to-nand to-nor ≡ 0
-unfolding backGrounds firstGrounds
+    → earlyGrounds Old s 0 nand nor slots to-nand to-nor ≡ 0
+unfolding backGrounds earlyGrounds
 first-free s nand nor slots to-nand to-nor e =
     go (nandBad (length nand) slots || nandBad to-nand slots) (norBad nor || norBad to-nor) (not (withinBounds New s 0 slots))
     (anyClosed (isForm Old) (world nand [] s) slots) (anyClosed (isDamaged New slots (s .current)) (world nand [] s) slots)
@@ -330,5 +333,5 @@ module _ (f : Form) (w : World) (slots : ℕ) (nand nor : List ℕ) (n : ℕ)
 
 -- an answer with a state of form 0
 pub old-made : (number n : ℕ) (nand nor : List ℕ) (o : OldState) (s : State) (live : ℕ) → number ≡ n → o .state ≡ s → o .live ≡ live
-    → oldAnswered number nand nor o ≡ record { number = n; world = record { form = Old; nand = nand; nor = nor; state = s; live = live } }
+    → oldReturned number nand nor o ≡ record { number = n; world = record { form = Old; nand = nand; nor = nor; state = s; live = live } }
 old-made number n nand nor o s live a b c = rw (a, b, c)

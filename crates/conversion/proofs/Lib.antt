@@ -1,4 +1,1 @@
-pub mod Seeking
-pub mod Rising
-pub mod Carrying
 pub mod Judged

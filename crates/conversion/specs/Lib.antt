@@ -1,4 +1,2 @@
-pub mod Carried
-pub mod Retained
 pub mod Outcome
-pub mod Pieces
+pub mod Inner

@@ -12,8 +12,8 @@ use Rattle.store.specs.declared.State.{State}
 use Rattle.store.specs.Bounds.{withinBounds}
 use Rattle.store.specs.World.{World, world, oldWorld}
 use Rattle.store.specs.Calls.{Outcome, outcome, formatted}
-use Rattle.conversion.specs.Carried.{other, firstTime, worldInto}
-use Rattle.conversion.specs.Retained.{anyClosed, isForm, isDamaged, retainedTimes, rises, anyLate, hasLate}
+use Rattle.carry.specs.Carried.{other, firstTime, worldInto}
+use Rattle.retained.specs.Retained.{anyClosed, isForm, isDamaged, retainedTimes, rises, anyLate, hasLate}
 
 -- ground 14, "going back": "a retained lift is no later than the one before it, or a pointer neither none nor live is no earlier than
 -- the oldest live time"
@@ -55,5 +55,5 @@ abbrev pub backwardOutcome : List ℕ → List ℕ → State → ℕ → List �
 backwardOutcome nand nor s slots toNand toNor = carryOutcome Old (world nand nor s) slots toNand toNor
 
 -- what a call that hands back a state of form 0 leaves
-abbrev pub oldAnswered : ℕ → List ℕ → List ℕ → OldState → Outcome
-oldAnswered number nand nor o = record { number = number; world = oldWorld nand nor o }
+abbrev pub oldReturned : ℕ → List ℕ → List ℕ → OldState → Outcome
+oldReturned number nand nor o = record { number = number; world = oldWorld nand nor o }

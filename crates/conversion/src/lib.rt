@@ -1,11 +1,7 @@
 // A store of one form carried into a second lent store of the other (document 02, W-203): there, from form 0 to form 1, and back.
-mod carry;
-mod headers;
-mod times;
-
-use crate::headers::Serials;
-use crate::headers::Sought;
+use carry::Serials;
 use form::Form;
+use retained::headers::Sought;
 use store::Answer;
 use store::OldState;
 use store::State;
@@ -14,12 +10,13 @@ ghost use mathlib.Core.Bool.{true};
 ghost use mathlib.Core.List.{[]};
 ghost use Prim.Native.Nat.{_*_, _≤_};
 ghost use lib.ListN.{length};
+ghost use Rattle.flash.specs.Chip.{slotWidth};
 ghost use Rattle.form.specs.declared.Form.the-variants.{Old};
 ghost use Rattle.store.specs.World.{world};
-ghost use Rattle.store.specs.Calls.{answered};
-ghost use Rattle.conversion.specs.Carried.{nandInto};
-ghost use Rattle.conversion.specs.Outcome.{cannotGoBack, forwardOutcome, backwardOutcome, oldAnswered};
-ghost use Rattle.conversion.specs.Pieces.{lengthsGround, storeOf, firstGrounds, backGrounds, NoGround};
+ghost use Rattle.store.specs.Calls.{returned};
+ghost use Rattle.carry.specs.Carried.{nandInto};
+ghost use Rattle.conversion.specs.Outcome.{cannotGoBack, forwardOutcome, backwardOutcome, oldReturned};
+ghost use Rattle.conversion.specs.Inner.Pieces.{lengthsGround, storeOf, earlyGrounds, backGrounds, NoGround};
 
 // A call's number, and the second store's state in form 0.
 pub struct OldAnswer {
@@ -56,7 +53,7 @@ fn first_grounds(
     to_nor: usize,
     form: Form,
 ) -> u8
-    ensures { λ r. ⌜ r ≡ firstGrounds form s live (now (nand .entry)) nor slots «to_nand» «to_nor» ⌝ }
+    ensures { λ r. ⌜ r ≡ earlyGrounds form s live (now (nand .entry)) nor slots «to_nand» «to_nor» ⌝ }
 {
     let n = lengths_ground(nand.len(), nor, slots, to_nand, to_nor);
     if n != 0 {
@@ -72,10 +69,10 @@ fn first_grounds(
         oldest: s.oldest,
         current: s.current,
     };
-    if headers::any_closed(nand, c, form, Sought::OtherForm, 0) {
+    if retained::headers::any_closed(nand, c, form, Sought::OtherForm, 0) {
         return 13;
     }
-    if headers::any_closed(nand, c, from, Sought::Damage, 0) {
+    if retained::headers::any_closed(nand, c, from, Sought::Damage, 0) {
         return 10;
     }
     0
@@ -92,15 +89,15 @@ fn cannot_go_back(s: State, nand: &[u8], slots: u64) -> bool
         current: s.current,
     };
     let page = s.page;
-    if !times::all_rise(nand, c, page, s.count) {
+    if !retained::times::all_rise(nand, c, page, s.count) {
         return true;
     }
     let first = carry::first_time(nand, slots, s);
     let heads = s.heads;
-    if headers::any_late(heads, s.oldest, first) {
+    if retained::headers::any_late(heads, s.oldest, first) {
         return true;
     }
-    headers::any_closed(nand, c, Form::New, Sought::LatePointer, first)
+    retained::headers::any_closed(nand, c, Form::New, Sought::LatePointer, first)
 }
 
 // All grounds of going back.
@@ -147,7 +144,7 @@ fn carry_chips(
     to_nor: &mut [u8],
     form: Form,
 )
-    requires { ⌜ (length (now nand) ≡ slots * 16384) × (length (now «to_nand») ≡ slots * 16384) × (1 ≤ slots)
+    requires { ⌜ (length (now nand) ≡ slots * slotWidth) × (length (now «to_nand») ≡ slots * slotWidth) × (1 ≤ slots)
         × (1 ≤ s .oldest) × (s .oldest ≤ s .current) × (length (now nor) ≡ length (now «to_nor»)) ⌝ }
     ensures { λ _. ⌜ (now («to_nand» .exit) ≡ nandInto form (storeOf form s 0 (now (nand .entry)) (now (nor .entry))) slots)
         × (now («to_nor» .exit) ≡ now (nor .entry)) ⌝ }
@@ -170,7 +167,7 @@ pub fn forward(
     to_nand: &mut [u8],
     to_nor: &mut [u8],
 ) -> Answer
-    ensures { λ r. ⌜ answered (r .number) (now («to_nand» .exit)) (now («to_nor» .exit)) (r .state)
+    ensures { λ r. ⌜ returned (r .number) (now («to_nand» .exit)) (now («to_nor» .exit)) (r .state)
         ≡ forwardOutcome (now (nand .entry)) (now (nor .entry)) old slots (now («to_nand» .entry)) (now («to_nor» .entry)) ⌝ }
 {
     let s = old.state;
@@ -208,7 +205,7 @@ pub fn backward(
     to_nand: &mut [u8],
     to_nor: &mut [u8],
 ) -> OldAnswer
-    ensures { λ r. ⌜ oldAnswered (r .number) (now («to_nand» .exit)) (now («to_nor» .exit)) (r .state)
+    ensures { λ r. ⌜ oldReturned (r .number) (now («to_nand» .exit)) (now («to_nor» .exit)) (r .state)
         ≡ backwardOutcome (now (nand .entry)) (now (nor .entry)) s slots (now («to_nand» .entry)) (now («to_nor» .entry)) ⌝ }
 {
     let n = backward_ground(s, nand, nor.len(), slots, to_nand.len(), to_nor.len());

@@ -1,16 +1,14 @@
 -- A chip is an array of pages: a page after programming or erasing, every other page as it was, and two chips that agree at every page are equal.
 -- Assumes nothing.
-use mathlib.Core.Path.{_≡_, refl, sym, ap, _∙_}
-use mathlib.Core.Logic.{_⊎_, inl, inr}
-use mathlib.Core.Bool.{Bool, true, false}
-use mathlib.Core.List.{List, [], _∷_}
-use Prim.Native.Nat.{ℕ, zero, suc, _+_, _*_, _/_, _%_, _≤_, _<_}
+use mathlib.Core.Path.{_≡_, _∙_}
+use mathlib.Core.List.{List}
+use Prim.Native.Nat.{ℕ, _+_, _*_, _/_, _%_, _<_}
 use native.Mathlib.Decide.{decLt}
 use native.Mathlib.Omega.{arith}
 use lib.ListN.{length}
-use Rattle.codec.specs.Area.{part, splice, repeated, allOnes}
+use Rattle.codec.specs.Area.{repeated}
 use Rattle.codec.proofs.Areas.{length-repeated, part-repeated, length-splice, part-before, part-inside, part-after, part-splice, agree-at-parts}
-use Rattle.flash.specs.Chip.{slotOf, pageStart, pageOf, programmed, slotErased, chipErased, erasedPage}
+use Rattle.flash.specs.Chip.{pageStart, pageOf, programmed, slotErased, chipErased, erasedPage}
 
 module _ (nand : List ℕ) (slots : ℕ) (size : length nand ≡ slots * 16384) (slot : ℕ) (there : slot < slots) where
   pub length-programmed : (p : ℕ) (page : List ℕ) → p < 32 → length page ≡ 512 → length (programmed nand slot p page) ≡ length nand

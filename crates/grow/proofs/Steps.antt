@@ -9,9 +9,9 @@ use borrow.Author.Tests.{eq-eqb, ne-eqb}
 use Rattle.tree.specs.Rules.{next}
 use Rattle.tree.specs.Reading.{bucketAt, Node, nodeIn, childAt, kidsOf, nodeGood}
 use Rattle.tree.specs.Plan as Tree
-use Rattle.tree.specs.Plan.{damaged, noRoom, newRoot, planHere, planFrom, fitted, planOn}
+use Rattle.tree.specs.Plan.{damaged, noRoom, newRoot, planHere, planFrom, orNoRoom, planOn}
 use Rattle.tree.proofs.Clears.{next-below, good-kids, Within, plan-within}
-use Rattle.grow.specs.Meaning.{meaning, Fitting}
+use Rattle.grow.specs.Inner.Meaning.{meaning, Fitting}
 use Rattle.grow.specs.declared.Plan.{Plan}
 use Rattle.grow.specs.declared.Plan.the-variants.{Damage, Full, Root, Entry, Child, Split}
 
@@ -22,7 +22,7 @@ pub child-none : (c : ℕ) → c ≡ 255 → (o : Option ℕ) → childAt c ≡ 
 child-none c h o e = sym e ∙ rw (eq-eqb c 255 h)
 
 module _ (area : List ℕ) (buckets count : ℕ) (loads : List ℕ) (l : ℕ) (w : Tree.Plan) (steps b : ℕ)
-    (leads : fitted buckets (planFrom area buckets count loads l steps b) ≡ w) where
+    (leads : orNoRoom buckets (planFrom area buckets count loads l steps b) ≡ w) where
   pub step-end : steps ≤ 0 → damaged ≡ w
   unfolding planFrom
   step-end h = let z : steps ≡ 0 = omega arith in rw z at leads
@@ -32,7 +32,7 @@ module _ (area : List ℕ) (buckets count : ℕ) (loads : List ℕ) (l : ℕ) (w
     node = nodeIn (bucketAt area b)
 
     -- this bucket's part in the plan
-    opened : fitted buckets
+    opened : orNoRoom buckets
         (cond (nodeGood node b buckets count)
         (elim (next (kidsOf node) l) [
           | none ↦ planHere node b loads l (kidsOf node)
@@ -47,11 +47,11 @@ module _ (area : List ℕ) (buckets count : ℕ) (loads : List ℕ) (l : ℕ) (w
     step-damage e = rw e at opened
 
     module _ (good : nodeGood node b buckets count ≡ true) where
-      pub step-here : next (kidsOf node) l ≡ none → fitted buckets (planHere node b loads l (kidsOf node)) ≡ w
+      pub step-here : next (kidsOf node) l ≡ none → orNoRoom buckets (planHere node b loads l (kidsOf node)) ≡ w
       step-here e = rw (good, e) at opened
 
       pub step-down : (c : ℕ) → next (kidsOf node) l ≡ some c
-          → fitted buckets (planFrom area buckets count loads l (steps - 1) c) ≡ w
+          → orNoRoom buckets (planFrom area buckets count loads l (steps - 1) c) ≡ w
       step-down c e = rw (good, e) at opened
 
       pub step-below : (c : ℕ) → next (kidsOf node) l ≡ some c → c < buckets
@@ -69,7 +69,7 @@ module _ (area : List ℕ) (buckets count : ℕ) (loads : List ℕ) (l : ℕ) wh
   plan-full h e = rw (ne-eqb count 0 h, eq-eqb count 320 e)
 
   pub plan-open : (count ≡ 0 → ⊥) → (count ≡ 320 → ⊥)
-      → fitted buckets (planFrom area buckets count loads l buckets 0) ≡ planOn area buckets count loads l
+      → orNoRoom buckets (planFrom area buckets count loads l buckets 0) ≡ planOn area buckets count loads l
   unfolding planOn
   plan-open h k = rw (ne-eqb count 0 h, ne-eqb count 320 k)
 

@@ -8,17 +8,17 @@ use mathlib.Core.List.{List}
 use native.Mathlib.Omega.{arith}
 use lib.Dec.{leb, ltb, eqb}
 use borrow.Author.Tests.{lt-ltb, le-ltb, le-leb, lt-leb, eq-eqb, ne-eqb}
+use Rattle.codec.proofs.Truth.{and-parts}
 use Rattle.split.specs.Split.{midpoint}
 use Rattle.tree.specs.Rules.{next}
 use Rattle.tree.specs.Bytes.{noMid}
 use Rattle.tree.specs.Reading as Reading
 use Rattle.tree.specs.Reading.{childAt, kidsOf, nodeIn, nodeGood}
-use Rattle.tree.specs.Plan.{noRoom, intoBucket, newChild, splitBucket, planHere, fitted}
-use Rattle.tree.specs.Seen.{seenNode}
+use Rattle.tree.specs.Plan.{noRoom, intoBucket, newChild, splitBucket, planHere, orNoRoom}
+use Rattle.tree.specs.Inner.Seen.{seenNode}
 use Rattle.tree.specs.declared.Node.{Node}
-use Rattle.tree.proofs.Clears.{both}
 use Rattle.tree.proofs.Looked.{sound}
-use Rattle.grow.specs.Sight.{Sees}
+use Rattle.grow.specs.Inner.Sight.{Sees}
 
 -- what was read of the bucket in these bytes
 module _ (s : List ℕ) (b buckets count : ℕ) (n : Node) (is : n ≡ seenNode s b buckets count) where
@@ -62,16 +62,16 @@ module _ (n : Node) (m : Reading.Node) (s : Sees n m) (l : ℕ) where
 
   module _ (b buckets : ℕ) (loads : List ℕ) where
     pub here-entry : (eqb (n .mid) noMid && ltb (n .used) 13) ≡ true
-        → intoBucket b (n .used) ≡ fitted buckets (planHere m b loads l (kidsOf m))
+        → intoBucket b (n .used) ≡ orNoRoom buckets (planHere m b loads l (kidsOf m))
     unfolding kidsOf
     here-entry e =
-        let t = both (eqb (n .mid) noMid) (ltb (n .used) 13) e in
+        let t = and-parts (eqb (n .mid) noMid) (ltb (n .used) 13) e in
         rw (← s .mid, t .0, ← s .used, t .1)
 
     pub here-split : (eqb (n .mid) noMid && ltb (n .used) 13) ≡ false → buckets < 36 → eqb (n .mid) noMid ≡ true
         → (c side x y : ℕ) → c ≡ midpoint (n .x) (n .y) loads → side ≡ cond (leb l c) 12 13
         → x ≡ cond (leb l c) (n .x) c → y ≡ cond (leb l c) c (n .y)
-        → splitBucket b c side x y ≡ fitted buckets (planHere m b loads l (kidsOf m))
+        → splitBucket b c side x y ≡ orNoRoom buckets (planHere m b loads l (kidsOf m))
     unfolding kidsOf
     here-split e h w c side x y ec es ex ey =
         let u : ltb (n .used) 13 ≡ false = rw w at e in
@@ -80,16 +80,16 @@ module _ (n : Node) (m : Reading.Node) (s : Sees n m) (l : ℕ) where
     pub here-child : buckets < 36 → eqb (n .mid) noMid ≡ false
         → (side x y : ℕ) → side ≡ cond (leb l (n .mid)) 12 13
         → x ≡ cond (leb l (n .mid)) (n .x) (n .mid) → y ≡ cond (leb l (n .mid)) (n .mid) (n .y)
-        → newChild b side x y ≡ fitted buckets (planHere m b loads l (kidsOf m))
+        → newChild b side x y ≡ orNoRoom buckets (planHere m b loads l (kidsOf m))
     unfolding kidsOf
     here-child h w side x y es ex ey = rw (es, ex, ey, ← s .mid, w, ← s .x, ← s .y, lt-ltb buckets 36 h)
 
     pub here-full : (eqb (n .mid) noMid && ltb (n .used) 13) ≡ false → 36 ≤ buckets
-        → noRoom ≡ fitted buckets (planHere m b loads l (kidsOf m))
+        → noRoom ≡ orNoRoom buckets (planHere m b loads l (kidsOf m))
     unfolding kidsOf
     here-full e h = go (eqb (n .mid) noMid) refl e
       where
         go : (w : Bool) → eqb (n .mid) noMid ≡ w → (w && ltb (n .used) 13) ≡ false
-            → noRoom ≡ fitted buckets (planHere m b loads l (kidsOf m))
+            → noRoom ≡ orNoRoom buckets (planHere m b loads l (kidsOf m))
         go true w u = rw (← s .mid, w, ← s .used, u, le-ltb buckets 36 h)
         go false w u = rw (← s .mid, w, le-ltb buckets 36 h)

@@ -4,8 +4,8 @@ use mathlib.Core.Path.{_≡_, sym, subst}
 use native.Mathlib.Omega.{arith}
 use Rattle.tree.specs.Writes.{writesOf}
 use Rattle.tree.proofs.Clears.{Within, Rising, writes-rise}
-use Rattle.grow.specs.Meaning.{meaning, Fitting}
-use Rattle.grow.specs.Written.{allOf, InTree}
+use Rattle.grow.specs.Inner.Meaning.{meaning, Fitting}
+use Rattle.grow.specs.Inner.Written.{allOf, InTree}
 use Rattle.grow.specs.declared.Plan.{Plan}
 use Rattle.grow.specs.declared.Plan.the-variants.{Damage, Full, Root, Entry, Child, Split}
 use Rattle.grow.specs.declared.Writes.{Writes}

@@ -1,3 +1,1 @@
-pub mod Meaning
-pub mod Written
-pub mod Sight
+pub mod Inner

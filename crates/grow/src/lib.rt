@@ -1,21 +1,22 @@
 // An insertion into the tree's bytes (document 01, "Tree"): its plan from reads alone, then its writes.
+use lift::LOADS_KEPT;
 use tree::Bucket;
 use tree::Node;
 ghost use mathlib.Core.Path.{_≡_};
 ghost use mathlib.Core.Bool.{cond};
 ghost use Prim.Native.Nat.{ℕ, _+_, _*_, _≤_, _<_};
 ghost use lib.ListN.{length, getD};
-ghost use Rattle.tree.specs.Rules.{next};
+ghost use Rattle.flash.specs.Chip.{treeWidth};
+ghost use Rattle.lift.specs.Limits.{codeMost, loadsKept};
+ghost use Rattle.tree.specs.Rules.{next, bucketsMost, entriesMost};
 ghost use Rattle.tree.specs.Reading as Reading;
 ghost use Rattle.tree.specs.Reading.{childAt, kidsOf};
-ghost use Rattle.tree.specs.Plan.{damaged, intoBucket, planHere, planFrom, fitted, planOn};
+ghost use Rattle.tree.specs.Plan.{damaged, intoBucket, planHere, planFrom, orNoRoom, planOn};
+ghost use Rattle.tree.specs.Place.{bucketStart};
 ghost use Rattle.tree.specs.Writes as Tree;
-ghost use Rattle.grow.specs.Meaning.{meaning, Fitting};
-ghost use Rattle.grow.specs.Written.{writeOf, allOf, growth, InTree};
-ghost use Rattle.grow.specs.Sight.{Sees};
-
-// "An append that finds 320 lifts .. first closes"
-pub const MAX_LIFTS: u16 = 320;
+ghost use Rattle.grow.specs.Inner.Meaning.{meaning, Fitting};
+ghost use Rattle.grow.specs.Inner.Written.{writeOf, allOf, growth, InTree};
+ghost use Rattle.grow.specs.Inner.Sight.{Sees};
 
 // Where an entry goes.
 pub enum Plan {
@@ -79,10 +80,10 @@ fn child_for(n: Node, code: u32) -> u8
 }
 
 // The load stays at bucket b: it has no child there.
-fn plan_here(n: Node, b: u8, buckets: u8, loads: [u32; 13], code: u32) -> Plan
-    requires { ⌜ (n .x < n .y) × (n .y ≤ 150001) ⌝ }
-    requires { ⌜ ((k : ℕ) → k < 13 → getD loads k 0 ≤ 150001) ⌝ }
-    ensures { λ r. ⌜ ((m : Reading.Node) → Sees n m → meaning r ≡ fitted buckets (planHere m b loads code (kidsOf m))) ⌝ }
+fn plan_here(n: Node, b: u8, buckets: u8, loads: [u32; LOADS_KEPT], code: u32) -> Plan
+    requires { ⌜ (n .x < n .y) × (n .y ≤ codeMost) ⌝ }
+    requires { ⌜ ((k : ℕ) → k < loadsKept → getD loads k 0 ≤ codeMost) ⌝ }
+    ensures { λ r. ⌜ ((m : Reading.Node) → Sees n m → meaning r ≡ orNoRoom buckets (planHere m b loads code (kidsOf m))) ⌝ }
 {
     let x = n.x;
     let y = n.y;
@@ -92,7 +93,7 @@ fn plan_here(n: Node, b: u8, buckets: u8, loads: [u32; 13], code: u32) -> Plan
     if whole & (used < tree::ENTRIES_PER_BUCKET) {
         return Plan::Entry(Bucket(b), used);
     }
-    if tree::MAX_BUCKETS <= buckets {
+    if tree::BUCKETS_MOST <= buckets {
         return Plan::Full;
     }
     if whole {
@@ -111,10 +112,10 @@ fn plan_here(n: Node, b: u8, buckets: u8, loads: [u32; 13], code: u32) -> Plan
 }
 
 // Down from the root; each bucket on the path is checked whole.
-fn descend(tree: &[u8], buckets: u8, count: u16, loads: [u32; 13], code: u32) -> Plan
-    requires { ⌜ (4608 ≤ length (now tree)) × (buckets ≤ 36) ⌝ }
-    requires { ⌜ ((k : ℕ) → k < 13 → getD loads k 0 ≤ 150001) ⌝ }
-    ensures { λ r. ⌜ meaning r ≡ fitted buckets (planFrom (now (tree .entry)) buckets count loads code buckets 0) ⌝ }
+fn descend(tree: &[u8], buckets: u8, count: u16, loads: [u32; LOADS_KEPT], code: u32) -> Plan
+    requires { ⌜ (treeWidth ≤ length (now tree)) × (buckets ≤ bucketsMost) ⌝ }
+    requires { ⌜ ((k : ℕ) → k < loadsKept → getD loads k 0 ≤ codeMost) ⌝ }
+    ensures { λ r. ⌜ meaning r ≡ orNoRoom buckets (planFrom (now (tree .entry)) buckets count loads code buckets 0) ⌝ }
 {
     let mut b: u8 = 0;
     let mut steps = buckets;
@@ -136,16 +137,16 @@ fn descend(tree: &[u8], buckets: u8, count: u16, loads: [u32; 13], code: u32) ->
 }
 
 // Where a load goes, in a tree of so many buckets and lifts, after these last loads.
-pub fn plan_for(tree: &[u8], buckets: u8, count: u16, loads: [u32; 13], code: u32) -> Plan
-    requires { ⌜ (4608 ≤ length (now tree)) × (buckets ≤ 36) ⌝ }
-    requires { ⌜ ((k : ℕ) → k < 13 → getD loads k 0 ≤ 150001) ⌝ }
+pub fn plan_for(tree: &[u8], buckets: u8, count: u16, loads: [u32; LOADS_KEPT], code: u32) -> Plan
+    requires { ⌜ (treeWidth ≤ length (now tree)) × (buckets ≤ bucketsMost) ⌝ }
+    requires { ⌜ ((k : ℕ) → k < loadsKept → getD loads k 0 ≤ codeMost) ⌝ }
     ensures is { λ r. ⌜ meaning r ≡ planOn (now (tree .entry)) buckets count loads code ⌝ }
     ensures fits { λ r. ⌜ Fitting buckets r ⌝ }
 {
     if count == 0 {
         return Plan::Root;
     }
-    if count == MAX_LIFTS {
+    if count == lift::LIFTS_MOST {
         return Plan::Full;
     }
     descend(tree, buckets, count, loads, code)
@@ -186,7 +187,7 @@ fn pair(a: u32, b: u32) -> u64
 // A write within a bucket.
 fn write_in(b: Bucket, offset: usize, len: usize, value: u64) -> Write
     requires { ⌜ offset ≤ 128 ⌝ }
-    ensures { λ r. ⌜ writeOf r ≡ record { to = 128 * b .0 + offset; len = len; value = value } ⌝ }
+    ensures { λ r. ⌜ writeOf r ≡ record { to = bucketStart (b .0) + offset; len = len; value = value } ⌝ }
 {
     let start = tree::start_of(b);
     let at = start + offset;
@@ -213,7 +214,7 @@ fn range_write(b: Bucket, x: u32, y: u32) -> Write
 }
 
 fn entry_write(b: Bucket, i: usize, code: u32, position: u16) -> Write
-    requires { ⌜ i < 13 ⌝ }
+    requires { ⌜ i < entriesMost ⌝ }
     ensures { λ r. ⌜ writeOf r ≡ Tree.entryWrite (b .0) i code position ⌝ }
 {
     let offset = tree::ENTRIES_AT + tree::ENTRY_BYTES * i;
@@ -236,7 +237,7 @@ fn grown(mid: Write, child: Write, n: u8, x: u32, y: u32, code: u32, position: u
 
 // An entry alone.
 fn entered(b: Bucket, i: usize, code: u32, position: u16) -> Writes
-    requires { ⌜ i < 13 ⌝ }
+    requires { ⌜ i < entriesMost ⌝ }
     ensures { λ r. ⌜ allOf r ≡ Tree.writesOf (intoBucket (b .0) i) 0 code position ⌝ }
 {
     let none = nothing();
@@ -264,7 +265,7 @@ fn no_writes() -> Writes
 // What the insertion of a load with this position writes; a new bucket gets the next number.
 pub fn writes_of(p: Plan, buckets: u8, code: u32, position: u16) -> Writes
     requires { ⌜ Fitting buckets p ⌝ }
-    requires { ⌜ buckets ≤ 36 ⌝ }
+    requires { ⌜ buckets ≤ bucketsMost ⌝ }
     ensures is { λ r. ⌜ allOf r ≡ Tree.writesOf (meaning p) buckets code position ⌝ }
     ensures inside { λ r. ⌜ InTree r ⌝ }
 {
@@ -294,7 +295,7 @@ fn is_clear(nor: &[u8], w: Write) -> bool
 
 // Whether all bytes due for writing are 255.
 pub fn clear(nor: &[u8], w: Writes) -> bool
-    requires { ⌜ (4608 ≤ length (now nor)) × InTree w ⌝ }
+    requires { ⌜ (treeWidth ≤ length (now nor)) × InTree w ⌝ }
     ensures { λ r. ⌜ r ≡ Tree.allClear (now (nor .entry)) (allOf w) ⌝ }
 {
     let a = is_clear(nor, w.mid);
@@ -313,7 +314,7 @@ fn put_write(nor: &mut [u8], w: Write)
 
 // The writes are carried out.
 pub fn carry(nor: &mut [u8], w: Writes)
-    requires { ⌜ (4608 ≤ length (now nor)) × InTree w ⌝ }
+    requires { ⌜ (treeWidth ≤ length (now nor)) × InTree w ⌝ }
     ensures { λ _. ⌜ now (nor .exit) ≡ Tree.allWritten (now (nor .entry)) (allOf w) ⌝ }
 {
     put_write(nor, w.mid);

@@ -1,7 +1,7 @@
 -- A load and the number it is stored as determine each other and compare alike: the offset drops out of every difference.
 -- Assumes nothing.
 use mathlib.Core.Path.{_≡_, refl, sym, ap, ap₂, _∙_}
-use mathlib.Core.Bool.{Bool, true, false, _&&_}
+use mathlib.Core.Bool.{true, _&&_}
 use Prim.Native.Nat.{ℕ, suc, _+_, _-_, _^_, _≤_, _<_}
 use native.Mathlib.Omega.{arith}
 use lib.Dec.{leb, ltb}
@@ -11,6 +11,7 @@ use mir.Syntax.{w32}
 use mir.Val.{SFits, toZ, ofZ}
 use mir.ValLaws.{toZ-ofZ, toZ-pos}
 use borrow.Author.Tests.{leb-true}
+use Rattle.codec.proofs.Truth.{and-left}
 use Rattle.lift.specs.Limits.{natural, loadOk, stored, loadOf, codeOk}
 use Rattle.lift.proofs.Differences as D
 
@@ -37,10 +38,6 @@ load-lt a b = D.lt-offset 50001 a b
 pub code-limits : (code : ℕ) → codeOk code ≡ loadOk (loadOf code)
 code-limits code =
     sym (ap₂ _&&_ (D.le 0 50000 code 50001 1 code (omega arith)) (D.le code 50001 100000 0 code 150001 (omega arith)))
-
-and-left : (a b : Bool) → (a && b) ≡ true → a ≡ true
-and-left true b e = refl
-and-left false b e = e
 
 -- what is known of the number of a load within its limits
 pub record Stored (z : ℤ) : Type 0 where

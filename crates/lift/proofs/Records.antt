@@ -3,7 +3,7 @@ use mathlib.Core.Path.{_≡_, refl, sym, ap, ap₂, _∙_}
 use mathlib.Core.List.{List, [], _++_, append-assoc}
 use Prim.Native.Nat.{ℕ, _+_, _^_, _≤_, _<_}
 use native.Mathlib.Omega.{arith}
-use lib.ListN.{length, take, drop, getD, length-append, List·getD-eq-default}
+use lib.ListN.{length, take, getD, length-append, List·getD-eq-default}
 use native.Mathlib.Decide.{decLt}
 use lib.Seq.{take-at, take-all, drop-at}
 use Rattle.codec.specs.Area.{part, splice}

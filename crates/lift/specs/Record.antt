@@ -4,6 +4,12 @@ use Prim.Native.Nat.{ℕ, _+_}
 use Rattle.codec.specs.Area.{part}
 use Rattle.codec.specs.Number.{bytes, numberAt}
 
+abbrev pub recordWidth : ℕ
+recordWidth = 32
+
+abbrev pub noteWidth : ℕ
+noteWidth = 20
+
 -- the record of a time, a load as stored and a note
 unfoldable pub recordBytes : ℕ → ℕ → List ℕ → List ℕ
 recordBytes time code note = bytes 8 time ++ (bytes 4 code ++ note)
@@ -16,4 +22,4 @@ abbrev pub codeAt : List ℕ → ℕ → ℕ
 codeAt area at = numberAt area (at + 8) 4
 
 abbrev pub noteAt : List ℕ → ℕ → List ℕ
-noteAt area at = part area (at + 12) 20
+noteAt area at = part area (at + 12) noteWidth

@@ -1,11 +1,13 @@
 // A lift (document 01, "Chips and slots"): its limits, its load as stored, its record of 32 bytes.
+use flash::PAGE_BYTES;
 ghost use mathlib.Core.Path.{_≡_};
 ghost use mathlib.Core.Bool.{true};
 ghost use Prim.Native.Nat.{_+_, _-_, _*_, _^_, _≤_, _<_};
 ghost use lib.ListN.{length};
+ghost use Rattle.flash.specs.Chip.{pageWidth};
 ghost use Rattle.codec.specs.Area.{part, splice};
 ghost use Rattle.lift.specs.Limits as Limits;
-ghost use Rattle.lift.specs.Record.{recordBytes, timeAt, codeAt};
+ghost use Rattle.lift.specs.Record.{recordBytes, timeAt, codeAt, recordWidth};
 ghost use Rattle.lift.specs.Rows.{timeIn, codeIn, recordIn};
 
 // "a time (ms, 0 to 999,999,999,999,999)"
@@ -22,6 +24,13 @@ pub const CODE_MAX: u32 = 150001;
 pub const RECORD_BYTES: usize = 32;
 
 pub const NOTE_BYTES: usize = 20;
+
+// "16 a page", in 20 pages: a segment has at most 320 lifts; "last 13 loads"
+pub const LIFTS_PER_PAGE: usize = 16;
+
+pub const LIFTS_MOST: u16 = 320;
+
+pub const LOADS_KEPT: usize = 13;
 
 const CODE_AT: usize = 8;
 
@@ -63,13 +72,13 @@ pub fn load_of(code: u32) -> i32
 
 // The page with a record from `at` on.
 pub fn with_record(
-    page: [u8; 512],
+    page: [u8; PAGE_BYTES],
     at: usize,
     time: u64,
     code: u32,
     note: [u8; NOTE_BYTES],
-) -> [u8; 512]
-    requires { ⌜ at + 32 ≤ 512 ⌝ }
+) -> [u8; PAGE_BYTES]
+    requires { ⌜ at + recordWidth ≤ pageWidth ⌝ }
     ensures { λ r. ⌜ r ≡ splice page at (recordBytes time code note) ⌝ }
 {
     let mut p = page;
@@ -97,7 +106,7 @@ pub fn record_code(area: &[u8], at: usize) -> u32
 // The time of the lift at place p of a segment, and its load as stored: the records before place `first` stand in `lifts`, the
 // others in `tail`.
 pub fn time_in(lifts: &[u8], tail: &[u8], first: usize, p: usize) -> u64
-    requires { ⌜ (p * 32 + 32 ≤ length (now lifts)) × ((p - first) * 32 + 32 ≤ length (now tail)) ⌝ }
+    requires { ⌜ (p * recordWidth + recordWidth ≤ length (now lifts)) × ((p - first) * recordWidth + recordWidth ≤ length (now tail)) ⌝ }
     ensures { λ r. ⌜ r ≡ timeIn (now (lifts .entry)) (now (tail .entry)) first p ⌝ }
 {
     if p < first {
@@ -107,7 +116,7 @@ pub fn time_in(lifts: &[u8], tail: &[u8], first: usize, p: usize) -> u64
 }
 
 pub fn code_in(lifts: &[u8], tail: &[u8], first: usize, p: usize) -> u32
-    requires { ⌜ (p * 32 + 32 ≤ length (now lifts)) × ((p - first) * 32 + 32 ≤ length (now tail)) ⌝ }
+    requires { ⌜ (p * recordWidth + recordWidth ≤ length (now lifts)) × ((p - first) * recordWidth + recordWidth ≤ length (now tail)) ⌝ }
     ensures { λ r. ⌜ r ≡ codeIn (now (lifts .entry)) (now (tail .entry)) first p ⌝ }
 {
     if p < first {
@@ -118,7 +127,7 @@ pub fn code_in(lifts: &[u8], tail: &[u8], first: usize, p: usize) -> u32
 
 // The 32 bytes from `at`.
 fn record_at(s: &[u8], at: usize) -> [u8; 32]
-    requires { ⌜ at + 32 ≤ length (now s) ⌝ }
+    requires { ⌜ at + recordWidth ≤ length (now s) ⌝ }
     ensures { λ r. ⌜ r ≡ part (now (s .entry)) at 32 ⌝ }
 {
     let mut r = [0u8; 32];
@@ -129,10 +138,10 @@ fn record_at(s: &[u8], at: usize) -> [u8; 32]
 
 // The record of the lift at place p is copied to row `row` of the result area.
 pub fn put_row(area: &mut [u8], row: usize, lifts: &[u8], tail: &[u8], first: usize, p: usize)
-    requires { ⌜ (p * 32 + 32 ≤ length (now lifts)) × ((p - first) * 32 + 32 ≤ length (now tail)) ⌝ }
-    requires { ⌜ row * 32 + 32 ≤ length (now area) ⌝ }
+    requires { ⌜ (p * recordWidth + recordWidth ≤ length (now lifts)) × ((p - first) * recordWidth + recordWidth ≤ length (now tail)) ⌝ }
+    requires { ⌜ row * recordWidth + recordWidth ≤ length (now area) ⌝ }
     ensures { λ _. ⌜ now (area .exit)
-        ≡ splice (now (area .entry)) (row * 32) (recordIn (now (lifts .entry)) (now (tail .entry)) first p) ⌝ }
+        ≡ splice (now (area .entry)) (row * recordWidth) (recordIn (now (lifts .entry)) (now (tail .entry)) first p) ⌝ }
 {
     let at = row * RECORD_BYTES;
     if p < first {

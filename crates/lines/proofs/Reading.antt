@@ -1,35 +1,32 @@
 -- The turns of a field's reading, and the tests of a line's form. The idea: what is left to read from here gives what the
 -- whole gives, and n columns make a number below 10 ^ n. Assumes nothing.
-use mathlib.Core.Path.{_≡_, refl, sym, ap, _∙_}
-use mathlib.Core.Bool.{Bool, true, false, cond, not, _&&_}
-use mathlib.Core.List.{List, [], _∷_, _++_}
+use mathlib.Core.Path.{_≡_, refl, sym}
+use mathlib.Core.Bool.{Bool, true, false, cond, _&&_}
+use mathlib.Core.List.{List}
 use Prim.Native.Nat.{ℕ, zero, suc, _+_, _-_, _*_, _^_, _≤_, _<_}
 use native.Mathlib.Nat.{pow-suc, pow-zero, pow-le-pow-right, lt-of-lt-of-le}
 use native.Mathlib.Omega.{arith}
 use borrow.Author.Tests.{leb-true, eqb-true, eq-eqb, ne-eqb}
 use lib.Dec.{leb, eqb}
-use lib.IntN.{ℤ, pos, negsuc, negℤ, subℕ, _-ℤ_}
+use lib.IntN.{ℤ, pos, subℕ, _-ℤ_}
 use lib.ListN.{length, getD}
 use mir.Syntax.{w32}
 use mir.Val.{SFits}
 use Rattle.codec.specs.Area.{part}
 use Rattle.codec.proofs.Loops.{part-step}
+use Rattle.codec.proofs.Truth.{and-parts}
 use Rattle.lift.proofs.Differences as D
 use Rattle.lines.specs.declared.Field.{Field}
 use Rattle.lines.specs.declared.Field.the-variants.{Spaces, Minus, Digits, Broken}
-use Rattle.lines.specs.Columns.{withDigit, withSpace, withMinus, readOn, readFrom, fieldIn, valueOf, hasMinus, loadIn}
+use Rattle.lines.specs.Columns.{withDigit, withSpace, withMinus, readOn, readFrom, valueOf, hasMinus, loadIn}
 use Rattle.lines.specs.Forms.{hasForm}
 
 -- ---- a column
 
-pub both : (a b : Bool) → (a && b) ≡ true → (a ≡ true) × (b ≡ true)
-both true b e = (refl, e)
-both false b e = (e, (cc))
-
 -- a digit is 48 to 57
 pub digit-range : (b : ℕ) → (leb 48 b && leb b 57) ≡ true → (48 ≤ b) × (b ≤ 57)
 digit-range b e =
-    let t = both (leb 48 b) (leb b 57) e in
+    let t = and-parts (leb 48 b) (leb b 57) e in
     (leb-true 48 b (t .0), leb-true b 57 (t .1))
 
 module _ (f : Field) (b : ℕ) (r : Field) where
@@ -144,4 +141,4 @@ this-length s letter n h = rw (eq-eqb (length s) n h)
 
 pub form-length : (s : List ℕ) (letter n : ℕ) → hasForm s letter n ≡ true → length s ≡ n
 unfolding hasForm
-form-length s letter n e = eqb-true (length s) n (both (eqb (length s) n) (eqb (getD s 0 0) letter) e .0)
+form-length s letter n e = eqb-true (length s) n (and-parts (eqb (length s) n) (eqb (getD s 0 0) letter) e .0)

@@ -10,8 +10,8 @@ use Rattle.tree.specs.Rules as Tree
 use Rattle.form.specs.declared.Form.{Form}
 use Rattle.form.specs.Forms.{step}
 use Rattle.form.specs.declared.Form.the-variants.{Old, New}
-use Rattle.paper_log.specs.Log.{Lift, Log, begun, closeLog, dropLog, isFull, roomLog, shedLog, putLog, appendLog, among, joined, found, rowOf}
-use Rattle.paper_log.specs.Calls.{Call, append, close, drop, search, numberOf, after, rowsOf, stepped, answered, logAfter, answers, tallyNumber}
+use Rattle.paper_log.specs.Log.{Lift, begun, closeLog, dropLog, isFull, roomLog, shedLog, putLog, appendLog, among, joined, found}
+use Rattle.paper_log.specs.Calls.{Call, append, close, drop, search, numberOf, after, rowsOf, stepped, answered, logAfter, answers}
 
 abbrev lift : ℕ → ℤ → Lift
 lift t k = record { time = t; load = k; note = replicate 20 0 }

@@ -1,13 +1,13 @@
 -- The calls on the paper log and the numbers that they return (document 01, "Paper log", first paragraph). Assumes nothing.
-use mathlib.Core.Bool.{Bool, true, false, cond, not, _&&_, _||_}
+use mathlib.Core.Bool.{Bool, cond, not, _&&_, _||_}
 use mathlib.Core.List.{List, [], _∷_, map}
 use Prim.Native.Nat.{ℕ}
 use lib.Dec.{eqb, leb, ltb}
-use lib.IntN.{ℤ, pos, negsuc}
+use lib.IntN.{ℤ}
 use lib.ListN.{length}
 use lib.Signed.{ltZ}
-use Rattle.lift.specs.Limits.{timeOk, loadOk}
-use Rattle.paper_log.specs.Log.{Lift, Log, begun, openSerial, closeLog, dropLog, appendLog, found, rowOf}
+use Rattle.lift.specs.Limits.{timeOk, loadOk, loadLeast, loadMost}
+use Rattle.paper_log.specs.Log.{Lift, Log, openSerial, closeLog, dropLog, appendLog, found, rowOf}
 
 -- "of each call, its kind, its S, times, loads and notes and the number of whole rows in its result area"
 pub data Call : Type 0 where
@@ -67,10 +67,10 @@ answered g c = record { number = numberOf g c; rows = cond (eqb (numberOf g c) 0
 
 -- a tally "counts what a search over all loads finds, and refuses as that would, ground 12 aside": as a search with room for all that it finds
 abbrev pub allLoads : Log → ℕ → ℕ → List Lift
-allLoads g t1 t2 = found g t1 t2 (negsuc 49999) (pos 100000)
+allLoads g t1 t2 = found g t1 t2 loadLeast loadMost
 
 unfoldable pub tallyNumber : Log → ℕ → ℕ → ℕ → ℕ
-tallyNumber g slots t1 t2 = numberOf g (search slots t1 t2 (negsuc 49999) (pos 100000) (length (allLoads g t1 t2)))
+tallyNumber g slots t1 t2 = numberOf g (search slots t1 t2 loadLeast loadMost (length (allLoads g t1 t2)))
 
 -- the log after a list of calls, and what each returned
 unfoldable pub logAfter : Log → List Call → Log

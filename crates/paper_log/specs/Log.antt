@@ -1,14 +1,15 @@
 -- The paper log (document 01, "Paper log"): lists of lifts under serials, and what each call makes of them. It knows nothing of chips,
 -- state or pages; it shares the tree rules with the store. Assumes nothing.
-use mathlib.Core.Bool.{Bool, true, false, cond, _&&_, _||_}
+use mathlib.Core.Bool.{Bool, cond, _&&_, _||_}
 use mathlib.Core.List.{List, [], _∷_, _++_, map}
-use Prim.Native.Nat.{ℕ, zero, suc, _+_, _-_}
-use lib.Dec.{eqb, leb, ltb}
+use Prim.Native.Nat.{ℕ, _+_}
+use lib.Dec.{eqb, leb}
 use lib.IntN.{ℤ}
 use lib.ListN.{length, drop}
 use lib.Signed.{leZ}
 use Rattle.lift.specs.Limits.{stored}
 use Rattle.lift.specs.Record.{recordBytes}
+use Rattle.lift.specs.Rows.{liftsMost}
 use Rattle.form.specs.declared.Form.{Form}
 use Rattle.form.specs.Forms.{step}
 use Rattle.tree.specs.Rules.{needsBucket36}
@@ -51,13 +52,14 @@ codes ls = map (λ l. stored (l .load)) ls
 
 -- "if open serial n has 320 lifts, or its loads and then the new one need bucket 36 by the tree rules"
 unfoldable pub isFull : List Lift → ℤ → Bool
-isFull ls load = eqb (length ls) 320 || needsBucket36 (codes ls) (stored load)
+isFull ls load = eqb (length ls) liftsMost || needsBucket36 (codes ls) (stored load)
 
 -- "n closes and n+1 opens"
 unfoldable pub roomLog : Log → ℤ → Log
 roomLog g load = cond (isFull (g .current) load) (closeLog g) g
 
--- "m − S goes, if held": the open serial is at least S above the oldest one held
+-- "m − S goes, if held". Held are the serials from the oldest to the open one, m, without a gap, so m − S is held exactly where S or more are
+-- closed. More than S never are: a close wants lifts, and the append that brings the first one sheds. So m − S is then the oldest one.
 unfoldable pub shedLog : Log → Log
 shedLog g = cond (leb (g .slots) (length (g .closed))) (dropLog g) g
 

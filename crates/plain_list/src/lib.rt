@@ -145,7 +145,7 @@ impl PlainLog {
 
     // Without serial m − S, if it is held.
     fn without_far(self, sheet: &mut [u64]) -> PlainLog {
-        if (self.oldest as u64) <= sheet::less(self.current as u64, self.slots) {
+        if (self.oldest as u64) <= plain_rules::less(self.current as u64, self.slots) {
             return self.drop(sheet);
         }
         self

@@ -127,10 +127,10 @@ fn end_without_child(sheet: &[u64], bucket: u32) -> u64 {
         return 0;
     }
     if field(sheet, bucket, RIGHT) == 0 {
-        return sheet::less(y, RAISE);
+        return plain_rules::less(y, RAISE);
     }
     if field(sheet, bucket, LEFT) == 0 {
-        return sheet::less(x + 1, RAISE);
+        return plain_rules::less(x + 1, RAISE);
     }
     0
 }
@@ -172,8 +172,9 @@ fn split(sheet: &mut [u64], bucket: u32, lifts: u32) {
     if mid == 0 {
         let x = field(sheet, bucket, LOWER);
         let y = field(sheet, bucket, UPPER);
-        let f = fitted(sheet, lifts);
-        put_field(sheet, bucket, MID, mid_of(x, y, f));
+        let s = last_sums(sheet, lifts);
+        let f = plain_rules::fitted(s.all, s.placed);
+        put_field(sheet, bucket, MID, plain_rules::mid_of(x, y, f));
     }
 }
 
@@ -195,12 +196,6 @@ fn put_child(sheet: &mut [u64], parent: u32, number: u32, load: u64) {
 struct Sums {
     all: u64,
     placed: u64,
-}
-
-// l and h, raised.
-pub struct Fit {
-    pub low: u64,
-    pub high: u64,
 }
 
 // From the last load to the first: what is summed so far counts once more for each place before it.
@@ -227,85 +222,4 @@ fn load_back(sheet: &[u64], lifts: u32, back: u32) -> u64
     }
     let code = rows::code(sheet, lifts - back);
     raised(code)
-}
-
-// "fitted values (14A+7D)/182 and (14A+32D)/182", where D is the placed sum less 6A; the smaller rounded down, the larger up.
-fn fitted(sheet: &[u64], lifts: u32) -> Fit
-    ensures { λ r. ⌜ (r .low < 2 ^ 40) × (r .high < 2 ^ 40) ⌝ }
-{
-    let s = last_sums(sheet, lifts);
-    let p = sheet::less(7 * s.placed, 28 * s.all);
-    let q = sheet::less(32 * s.placed, 178 * s.all);
-    if p < q {
-        return Fit {
-            low: p / 182,
-            high: (q + 181) / 182,
-        };
-    }
-    Fit {
-        low: q / 182,
-        high: (p + 181) / 182,
-    }
-}
-
-// "Mid is the first that applies, halves rounded down", before it is brought into the range.
-fn rule(x: u64, y: u64, f: Fit) -> u64
-    requires { ⌜ (x < 2 ^ 32) × ((y < 2 ^ 32) × ((f .low < 2 ^ 40) × (f .high < 2 ^ 40))) ⌝ }
-{
-    let l = f.low;
-    let h = f.high;
-    let half = (x + y) / 2;
-    if (x < l) & (h < y) {
-        return (l + h) / 2;
-    }
-    if (l <= x) & (y <= h) {
-        return half;
-    }
-    if (l <= x) & ((x < h) & (h <= y)) {
-        // 2(h−x) > h−l
-        if 2 * x < h + l {
-            return (x + h) / 2;
-        }
-        return larger(h, half);
-    }
-    if (x <= l) & ((l < y) & (y <= h)) {
-        // 2(y−l) > h−l
-        if h + l < 2 * y {
-            return (l + y) / 2;
-        }
-        return smaller(l, half);
-    }
-    half
-}
-
-fn larger(a: u64, b: u64) -> u64 {
-    if a < b {
-        return b;
-    }
-    a
-}
-
-fn smaller(a: u64, b: u64) -> u64 {
-    if a < b {
-        return a;
-    }
-    b
-}
-
-// "Then it is brought into x+1..y−1; if y=x+1, mid is y"
-fn mid_of(x: u64, y: u64, f: Fit) -> u64
-    requires { ⌜ (x < 2 ^ 32) × ((y < 2 ^ 32) × ((f .low < 2 ^ 40) × (f .high < 2 ^ 40))) ⌝ }
-    ensures { λ r. ⌜ (x < y → (x < r) × (r ≤ y)) ⌝ }
-{
-    if y <= x + 1 {
-        return y;
-    }
-    let m = rule(x, y, f);
-    if m <= x {
-        return x + 1;
-    }
-    if y <= m {
-        return y - 1;
-    }
-    m
 }

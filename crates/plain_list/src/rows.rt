@@ -121,24 +121,10 @@ pub fn of_plate(sheet: &[u64], lifts: u32, q: Query, plate: u64) -> u32
     let mut n: u32 = 0;
     let mut i: u32 = 0;
     while i < lifts {
-        if is_found(sheet, i, q) & (plate_of(code(sheet, i)) == plate) {
+        if is_found(sheet, i, q) & (plain_rules::plate_of(code(sheet, i)) == plate) {
             n += 1;
         }
         i += 1;
     }
     n
-}
-
-// "0 up to 250; n for 500n−250 < load ≤ 500n+250; 20 above 9,750", of a load as stored.
-pub fn plate_of(code: u64) -> u64
-    ensures { λ r. ⌜ (r ≤ 20) × ((code ≤ 50251 → r ≡ 0) × (59751 < code → r ≡ 20)) ⌝ }
-    ensures { λ r. ⌜ (50251 < code → code ≤ 59751 → (500 * r + 49751 < code) × (code ≤ 500 * r + 50251)) ⌝ }
-{
-    if code <= 50251 {
-        return 0;
-    }
-    if 59751 < code {
-        return 20;
-    }
-    (code - 49752) / 500
 }

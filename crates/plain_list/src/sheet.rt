@@ -40,13 +40,3 @@ pub fn plus(a: u64, b: u64) -> u64 {
     }
     a
 }
-
-// a − b, and 0 where b is more.
-pub fn less(a: u64, b: u64) -> u64
-    ensures { λ r. ⌜ r ≡ a - b ⌝ }
-{
-    if b <= a {
-        return a - b;
-    }
-    0
-}

@@ -8,6 +8,7 @@ use lib.Dec.{ltb, leb, eqb}
 use lib.IntN.{ℤ, pos, subℕ}
 use lib.Signed.{ltZ, leZ}
 use borrow.Author.Tests.{ltb-true, leb-true, leb-false, eqb-true, eqb-false, lt-ltb, le-leb, eq-eqb, ne-eqb}
+use Rattle.codec.proofs.Truth.{and-parts}
 use Rattle.lift.proofs.Differences as D
 use Rattle.plate.specs.Plate.{inBand, firstFrom, plateOf}
 
@@ -68,11 +69,6 @@ in-band p c k (highest e a) =
     let n : eqb p 0 ≡ false = ne-eqb p 0 (λ z. omega arith) in
     band-tests p c k ∙ simp (n, eq-eqb p 20 e, lt-ltb (9750 + k) c a)
 
-both : (a b : Bool) → (a && b) ≡ true → (a ≡ true) × (b ≡ true)
-both true b e = (refl, e)
-both false true e = (e, refl)
-both false false e = (e, e)
-
 of-band : (p c k : ℕ) → p ≤ 20 → inBand p (subℕ c k) ≡ true → Band p c k
 of-band p c k l h = go (eqb p 0) refl (eqb p 20) refl (sym (band-tests p c k) ∙ h)
   where
@@ -82,7 +78,7 @@ of-band p c k l h = go (eqb p 0) refl (eqb p 20) refl (sym (band-tests p c k) �
     go true e t f h = lowest (eqb-true p 0 e) (leb-true c (250 + k) h)
     go false e true f h = highest (eqb-true p 20 f) (ltb-true (9750 + k) c h)
     go false e false f h =
-        let b = both _ _ h in
+        let b = and-parts _ _ h in
         between (omega (arith, eqb-false p 0 e)) (omega (arith, eqb-false p 20 f)) (ltb-true _ _ (b .0)) (leb-true _ _ (b .1))
 
 -- the search stops at the only band there is

@@ -10,7 +10,8 @@ use lib.ListN.{length, getD, set, length-set}
 use lib.Seq.{ext-getD, getD-set-same, getD-set-other}
 use borrow.Author.Tests.{eqb-true, eqb-false}
 use Rattle.lift.specs.Limits.{loadOf}
-use Rattle.plate.specs.Plate.{plateOf, countAt, countsFrom, countsOf, noCounts, countedIn, total}
+use Rattle.plate.specs.Plate.{plateOf, countAt, countsFrom, countsOf, noCounts, total}
+use Rattle.plate.specs.Inner.Counted.{countedIn}
 use Rattle.plate.proofs.Bands.{plate-small}
 use Rattle.plate.proofs.Totals.{total-more}
 

@@ -1,1 +1,2 @@
 pub mod Plate
+pub mod Inner

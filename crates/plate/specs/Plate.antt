@@ -4,16 +4,23 @@ use mathlib.Core.List.{List, [], _∷_}
 use Prim.Native.Nat.{ℕ, zero, suc, _+_, _*_}
 use lib.Dec.{eqb}
 use lib.IntN.{ℤ, pos, subℕ}
-use lib.ListN.{getD, set, replicate}
+use lib.ListN.{replicate}
 use lib.Signed.{ltZ, leZ}
 use Rattle.lift.specs.Limits.{loadOk, loadOf}
 use Rattle.plate.specs.declared.Lookup.{Lookup}
+
+-- plates 0 to 20
+abbrev pub plates : ℕ
+plates = 21
+
+abbrev pub lastPlate : ℕ
+lastPlate = 20
 
 -- the load lies in the band of plate n
 unfoldable pub inBand : ℕ → ℤ → Bool
 inBand n load =
     cond (eqb n 0) (leZ load (pos 250))
-    (cond (eqb n 20) (ltZ (pos 9750) load)
+    (cond (eqb n lastPlate) (ltZ (pos 9750) load)
     (ltZ (subℕ (500 * n) 250) load && leZ load (pos (500 * n + 250))))
 
 -- the first of n, n+1, .. whose band has the load; the last of them after k bands that do not
@@ -23,7 +30,7 @@ firstFrom (suc k) n load = cond (inBand n load) n (firstFrom k (suc n) load)
 
 -- "Plate of a load", 0 to 20
 unfoldable pub plateOf : ℤ → ℕ
-plateOf load = firstFrom 20 0 load
+plateOf load = firstFrom lastPlate 0 load
 
 -- the lookup's answer: number 0 and the plate; "The lookup refuses only by ground 5"
 unfoldable pub lookup : ℤ → Lookup
@@ -41,14 +48,11 @@ countsFrom (suc k) n codes = countAt n codes ∷ countsFrom k (suc n) codes
 
 -- "A tally is 21 counts": of these stored loads, by plate
 unfoldable pub countsOf : List ℕ → List ℕ
-countsOf codes = countsFrom 21 0 codes
+countsOf codes = countsFrom plates 0 codes
 
 -- the counts of no lift, and those with one lift more at the plate of its stored load
 abbrev pub noCounts : List ℕ
-noCounts = replicate 21 0
-
-abbrev pub countedIn : List ℕ → ℕ → List ℕ
-countedIn counts code = set counts (plateOf (loadOf code)) (getD counts (plateOf (loadOf code)) 0 + 1)
+noCounts = replicate plates 0
 
 -- the lifts of all plates together
 unfoldable pub total : List ℕ → ℕ

@@ -1,11 +1,25 @@
 // What the program prints.
-use crate::calls;
-use crate::calls::Call;
-use crate::sums;
+use crate::sums::Sums;
+use dice::calls::Call;
 
 const STDOUT: i32 = 1;
 
 const WIDTH: usize = 9;
+
+const WORD_BYTES: usize = 10;
+// The counts of a line; after them those of the grounds, from 0 on.
+const COLUMNS: usize = 13;
+
+const GROUND_ZERO: usize = 13;
+
+const GROUNDS: usize = 12;
+
+fn get(counts: &[u64], at: usize) -> u64 {
+    if at < counts.len() {
+        return counts[at];
+    }
+    0
+}
 
 pub fn head() {
     io::write_all(
@@ -20,7 +34,7 @@ pub fn head() {
 
 fn column(n: u64) {
     let mut o = [32u8; WIDTH];
-    lines::put_number(&mut o, 0, WIDTH, false, n);
+    answers::put_number(&mut o, 0, WIDTH, false, n);
     io::write_all(STDOUT, &o);
 }
 
@@ -35,36 +49,41 @@ fn end_line() {
 
 fn columns(counts: &[u64]) {
     let mut i: usize = 0;
-    while i <= sums::DIFFERENCES {
-        column(sums::get(counts, i));
+    while i < COLUMNS {
+        column(get(counts, i));
         i += 1;
     }
     end_line();
 }
 
-fn name(kind: u8) {
-    match kind {
-        0 => io::write_all(STDOUT, b" equal    "),
-        1 => io::write_all(STDOUT, b" rising   "),
-        2 => io::write_all(STDOUT, b" falling  "),
-        3 => io::write_all(STDOUT, b" clustered"),
-        4 => io::write_all(STDOUT, b" random   "),
-        5 => io::write_all(STDOUT, b" negative "),
-        6 => io::write_all(STDOUT, b" edges    "),
-        _ => io::write_all(STDOUT, b" splitting"),
+// The word at this place of a text of words that are ten bytes wide.
+fn word(words: &[u8], place: u8) {
+    let at = (place as usize) * WORD_BYTES;
+    if at + WORD_BYTES <= words.len() {
+        io::write_all(STDOUT, &words[at..at + WORD_BYTES]);
     }
-    ;
 }
 
-pub fn line(slots: u64, kind: u8, counts: &[u64]) {
+fn name(kind: u8) {
+    word(
+        b" equal     rising    falling   clustered random    negative  edges     splitting",
+        kind,
+    );
+}
+
+pub fn line(slots: u64, kind: u8, s: Sums) {
+    let n = s.n;
     io::print_decimal(STDOUT, slots);
     name(kind);
-    columns(counts);
+    columns(&n);
 }
 
-pub fn totals(counts: &[u64]) {
+// The counts of all lists, and how many calls each ground refused.
+pub fn totals(s: Sums) {
+    let n = s.n;
     io::write_all(STDOUT, b"all        ");
-    columns(counts);
+    columns(&n);
+    refused(&n);
 }
 
 fn ground_line(ground: usize, n: u64) {
@@ -78,30 +97,22 @@ fn ground_line(ground: usize, n: u64) {
 }
 
 // How many calls each ground of the list refused.
-pub fn refused(counts: &[u64]) {
+fn refused(counts: &[u64]) {
     let mut ground: usize = 1;
-    while ground <= sums::GROUNDS {
-        ground_line(ground, sums::get(counts, sums::GROUND_ZERO + ground));
+    while ground <= GROUNDS {
+        ground_line(ground, get(counts, GROUND_ZERO + ground));
         ground += 1;
     }
-}
-
-fn word(what: u8) {
-    match what {
-        calls::APPEND => io::write_all(STDOUT, b" append"),
-        calls::CLOSE => io::write_all(STDOUT, b" close"),
-        calls::DROP => io::write_all(STDOUT, b" drop"),
-        calls::SEARCH => io::write_all(STDOUT, b" search"),
-        _ => io::write_all(STDOUT, b" tally"),
-    }
-    ;
 }
 
 // The call of a line at which store and list first differ: its S, times and stored loads, then both numbers.
 pub fn difference(number: u64, c: Call, expected: u8, found: u8) {
     io::write_all(STDOUT, b"difference at call");
     item(number);
-    word(c.what);
+    word(
+        b" append    close     drop      search    tally    ",
+        c.what,
+    );
     arguments(c);
     io::write_all(STDOUT, b", list and store");
     item(expected as u64);

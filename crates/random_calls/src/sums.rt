@@ -1,74 +1,88 @@
-// What is counted over lists of calls. A place past the end counts nothing, and a count stops at the largest number.
+// What is counted over lists of calls, by value: a count for each kind of event. A call's events are the bits of a number.
 
 pub const SUMS: usize = 26;
 
-pub const CALLS: usize = 0;
+pub const CALLS: u32 = 0;
 
-pub const APPENDS: usize = 1;
+pub const APPENDS: u32 = 1;
 
-pub const CLOSES: usize = 2;
+pub const CLOSES: u32 = 2;
 
-pub const DROPS: usize = 3;
+pub const DROPS: u32 = 3;
 
-pub const SEARCHES: usize = 4;
+pub const SEARCHES: u32 = 4;
 
-pub const ROWS: usize = 5;
+// The rows that searches found have a place among the counts, and are no event.
+const ROWS: usize = 5;
 
-pub const TALLIES: usize = 6;
+pub const TALLIES: u32 = 6;
 
-pub const REFUSED: usize = 7;
+pub const REFUSED: u32 = 7;
 // Closes by an append: at 320 lifts, and for want of bucket 36.
-pub const FULL: usize = 8;
+pub const FULL: u32 = 8;
 
-pub const TREE_FULL: usize = 9;
+pub const TREE_FULL: u32 = 9;
 
-pub const FORCED_DROPS: usize = 10;
+pub const FORCED_DROPS: u32 = 10;
 // Lifts at the time of the one before.
-pub const REPEATED: usize = 11;
+pub const REPEATED: u32 = 11;
 
-pub const DIFFERENCES: usize = 12;
+pub const DIFFERENCES: u32 = 12;
 // The calls that ground n refused are counted at GROUND_ZERO + n, the accepted ones at GROUND_ZERO.
-pub const GROUND_ZERO: usize = 13;
+pub const GROUND_ZERO: u32 = 13;
 
-pub const GROUNDS: usize = 12;
+pub const GROUNDS: u32 = 12;
 
-pub fn get(sums: &[u64], at: usize) -> u64 {
-    if at < sums.len() {
-        return sums[at];
-    }
-    0
+pub struct Sums {
+    pub n: [u64; SUMS],
 }
 
-fn put(sums: &mut [u64], at: usize, n: u64) {
-    if at < sums.len() {
-        sums[at] = n;
-    }
-}
+const LARGEST: u64 = 18446744073709551615;
 
-pub fn plus(a: u64, b: u64) -> u64 {
-    if a <= 18446744073709551615 - b {
+// A count stops at the largest number.
+fn plus(a: u64, b: u64) -> u64 {
+    if a <= LARGEST - b {
         return a + b;
     }
     a
 }
 
-pub fn add(sums: &mut [u64], at: usize, n: u64) {
-    let before = get(sums, at);
-    put(sums, at, plus(before, n));
-}
-
-// 1 where it holds.
-pub fn one_if(holds: bool) -> u64 {
+pub fn event(what: u32, holds: bool) -> u64 {
     if holds {
-        return 1;
+        return 1 << (what % 64);
     }
     0
 }
 
-pub fn add_all(totals: &mut [u64], counts: &[u64]) {
+pub fn none() -> Sums {
+    Sums { n: [0u64; SUMS] }
+}
+
+// With the events of a call more.
+pub fn counted(s: Sums, events: u64) -> Sums {
+    let mut n = s.n;
     let mut i: usize = 0;
     while i < SUMS {
-        add(totals, i, get(counts, i));
+        n[i] = plus(n[i], (events >> i) % 2);
         i += 1;
     }
+    Sums { n }
+}
+
+pub fn with_rows(s: Sums, rows: u64) -> Sums {
+    let mut n = s.n;
+    n[ROWS] = plus(n[ROWS], rows);
+    Sums { n }
+}
+
+// The counts of two lists.
+pub fn sum(a: Sums, b: Sums) -> Sums {
+    let mut n = a.n;
+    let m = b.n;
+    let mut i: usize = 0;
+    while i < SUMS {
+        n[i] = plus(n[i], m[i]);
+        i += 1;
+    }
+    Sums { n }
 }

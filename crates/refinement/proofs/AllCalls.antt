@@ -1,25 +1,22 @@
 -- Demand 3: the store answers every list of calls after an accepted format as the paper log does. By induction over the list; each call by its own
 -- theorem. Assumes nothing.
-use mathlib.Core.Path.{_≡_, refl, sym, ap, ap₂, subst, _∙_}
+use mathlib.Core.Path.{_≡_, refl, ap, ap₂, _∙_}
 use mathlib.Core.Bool.{Bool, true, false, cond}
-use mathlib.Core.List.{List, [], _∷_, _++_, map}
-use Prim.Native.Nat.{ℕ, zero, suc, _*_, _/_, _≤_, _<_}
-use native.Mathlib.Omega.{arith}
+use mathlib.Core.List.{List, [], _∷_, map}
+use Prim.Native.Nat.{ℕ, _/_}
 use lib.Dec.{eqb}
 use lib.IntN.{ℤ}
-use lib.ListN.{length, getD, length-map}
+use lib.ListN.{length, length-map}
 use Rattle.store.specs.World.{World}
-use Rattle.store.specs.Calls.{Outcome, appendOutcome, closeOutcome, dropOutcome, formatOutcome}
-use Rattle.store.specs.Queries.{searchOutcome}
+use Rattle.store.specs.Calls.{Outcome}
+use Rattle.questions.specs.Queries.{searchOutcome}
 use Rattle.codec.specs.Area.{splice}
 use Rattle.search.specs.Answers.{rowBytes}
-use Rattle.paper_log.specs.Log.{Lift, Log, begun, found, rowOf}
+use Rattle.paper_log.specs.Log.{Log, found, rowOf}
 use Rattle.paper_log.specs.Calls as Paper
-use Rattle.refinement.specs.Image.{History, image}
-use Rattle.refinement.specs.Run as Run
-use Rattle.refinement.specs.Run.{Request, append, close, drop, search, callOf, Reply, plain, searched, reply, worldAfter, replies, runAfter, expected, expectedAll, Typed, AllTyped}
+use Rattle.refinement.specs.Inner.Image.{History, image}
+use Rattle.refinement.specs.Run.{Request, append, close, drop, search, callOf, Reply, plain, searched, reply, replies, expected, expectedAll, Typed, AllTyped}
 use Rattle.refinement.proofs.Good.{Good}
-use Rattle.refinement.proofs.Begun.{begunHistory, good-begun, format-world}
 use Rattle.refinement.proofs.Steps as Steps
 use Rattle.refinement.proofs.SearchStep.{search-step}
 use Rattle.refinement.proofs.Reached.{world-is, good-after}

@@ -1,32 +1,32 @@
 -- An append on a history's world: no damage is met, no page due is programmed twice, and what is left is the world of the history that the
 -- paper log's append makes. Assumes nothing.
-use mathlib.Core.Path.{_≡_, refl, sym, ap, ap₂, subst, _∙_}
+use mathlib.Core.Path.{_≡_, refl, sym, ap, subst, _∙_}
 use mathlib.Core.Bool.{Bool, true, false, cond, not, _&&_, _||_}
-use mathlib.Core.Option.{some}
-use mathlib.Core.List.{List, [], _∷_, _++_, map}
+use mathlib.Core.List.{List, [], _∷_}
 use Prim.Native.Nat.{ℕ, zero, suc, _+_, _-_, _*_, _/_, _%_, _≤_, _<_}
 use native.Mathlib.Decide.{decLt}
 use native.Mathlib.Omega.{arith}
-use lib.Dec.{eqb, leb, ltb}
+use lib.Dec.{eqb, leb}
 use lib.IntN.{ℤ}
 use lib.ListN.{length, length-append}
-use borrow.Author.Tests.{eqb-true, eqb-false, eq-eqb, ne-eqb, leb-true, leb-false, le-leb, lt-leb, le-ltb}
+use borrow.Author.Tests.{eqb-true, eqb-false, ne-eqb, leb-true, leb-false, lt-leb, le-ltb}
 use Rattle.form.specs.declared.Form.{Form}
 use Rattle.codec.specs.Area.{part, repeated, allOnes}
 use Rattle.codec.proofs.Areas.{part-append-right, part-repeated, ones-repeated, length-repeated}
-use Rattle.flash.specs.Chip.{slotOf, pageOf, pageErased, erasedPage}
+use Rattle.codec.proofs.Truth.{and-both, and-right, or-parts, or-second}
+use Rattle.flash.specs.Chip.{slotOf, pageErased}
 use Rattle.lift.specs.Limits.{stored}
 use Rattle.segment.specs.Pages.{pageDue, pagesErased, closeErased}
 use Rattle.segment.proofs.Tests.{due-lifts}
 use Rattle.tree.specs.Rules.{needsBucket36}
 use Rattle.tree.specs.Plan.{Plan, damaged, noRoom, newRoot, intoBucket, newChild, splitBucket, isDamaged, isNoRoom}
 use Rattle.tree.proofs.Built.{first-fits}
-use Rattle.store.specs.World.{World, closeWorld, dropWorld, putWorld, fillsPage}
+use Rattle.store.specs.World.{World, dropWorld, putWorld, fillsPage}
 use Rattle.store.specs.Calls.{dropDamage, planOf, roomWorld, dropsFirst, norClear, appendDamage, appendUnerased, appendWorld}
 use Rattle.paper_log.specs.Log.{Lift, Log, openSerial, codes, isFull, closeLog, dropLog, putLog, roomLog, shedLog, appendLog}
-use Rattle.refinement.specs.Segments as S
-use Rattle.refinement.specs.Image.{History, oldestHeads, nandImage, stateImage, image}
-use Rattle.refinement.proofs.Good.{GoodLift, Built, Good}
+use Rattle.refinement.specs.Inner.Segments as S
+use Rattle.refinement.specs.Inner.Image.{History, oldestHeads, nandImage, stateImage, image}
+use Rattle.refinement.proofs.Good.{GoodLift, Good}
 use Rattle.refinement.proofs.Lengths.{length-codes, length-sections}
 use Rattle.flash.proofs.Slots.{slot-below}
 use Rattle.refinement.proofs.PageLengths.{page-of-nand, length-area}
@@ -118,10 +118,6 @@ pub record Roomy (h : History) (l : Lift) (p : Plan) (r : History) : Type 0 wher
   pub slots : r .log .slots ≡ h .log .slots
   pub next : r .log .next ≡ h .log .next
 
-or-false : (a b : Bool) → (a || b) ≡ false → (a ≡ false) × (b ≡ false)
-or-false true b e = let z : _≡_ {A = ℕ} 0 1 = cc in absurd (omega arith)
-or-false false b e = (refl, e)
-
 -- the segment closes first
 roomy-closed : (h : History) (g : Good h) (l : Lift) (gl : GoodLift l) (p : Plan) → isNoRoom p ≡ true → 0 < length (h .log .current)
     → Roomy h l p (closeHistory h)
@@ -143,7 +139,7 @@ roomy-open : (h : History) (g : Good h) (l : Lift) (gl : GoodLift l) → isFull 
     → Roomy h l (planIn (h .log .current) (l .load)) h
 unfolding roomWorld isFull
 roomy-open h g l gl e =
-    let o = or-false (eqb (length (h .log .current)) 320) (needsBucket36 (codes (h .log .current)) (stored (l .load))) e in
+    let o = or-parts (eqb (length (h .log .current)) 320) (needsBucket36 (codes (h .log .current)) (stored (l .load))) e in
     let few : length (h .log .current) < 320 = omega (arith, g .segment .few, eqb-false (length (h .log .current)) 320 (o .0)) in
     record {
       good = g;
@@ -167,8 +163,8 @@ roomy h g l gl = go (isFull (h .log .current) (l .load)) refl
 -- the history s has a slot for the open serial
 pub record Shed (r : History) (s : History) : Type 0 where
   pub good : Good s
-  pub world : cond (dropsFirst (image r) (r .log .slots)) (dropWorld (image r) (r .log .slots)) (image r) ≡ image s
-  pub undamaged : (dropsFirst (image r) (r .log .slots) && dropDamage (image r) (r .log .slots)) ≡ false
+  pub world : cond (dropsFirst (image r .state) (r .log .slots)) (dropWorld (image r) (r .log .slots)) (image r) ≡ image s
+  pub undamaged : (dropsFirst (image r .state) (r .log .slots) && dropDamage (image r) (r .log .slots)) ≡ false
   pub current : s .log .current ≡ r .log .current
   pub slot : length (s .log .closed) < s .log .slots
   pub serial : openSerial (s .log) ≡ openSerial (r .log)
@@ -176,8 +172,8 @@ pub record Shed (r : History) (s : History) : Type 0 where
   pub next : s .log .next ≡ r .log .next
 
 -- a drop is forced exactly where S closed serials are held
-drops-is : (r : History) → Good r → dropsFirst (image r) (r .log .slots) ≡ leb (r .log .slots) (length (r .log .closed))
-unfolding dropsFirst image stateImage
+drops-is : (r : History) → Good r → dropsFirst (image r .state) (r .log .slots) ≡ leb (r .log .slots) (length (r .log .closed))
+unfolding image stateImage
 drops-is r g =
     let d : openSerial (r .log) - r .log .oldest ≡ length (r .log .closed) = omega arith in
     rw d (go (length (r .log .current)) (g .busy))
@@ -188,7 +184,7 @@ drops-is r g =
     go (suc n) f = rw (ne-eqb (suc n) 0 (λ z. omega arith), lt-leb (r .log .slots) (length (r .log .closed)) (f (omega arith)))
 
 shed-some : (v : Form) (slots oldest : ℕ) (closed : List (List Lift)) (current : List Lift) (next : ℕ) (gone : List ℕ)
-    → (g : Good (history v slots oldest closed current next gone)) → dropsFirst (image (history v slots oldest closed current next gone)) slots ≡ true
+    → (g : Good (history v slots oldest closed current next gone)) → dropsFirst (image (history v slots oldest closed current next gone) .state) slots ≡ true
     → slots ≤ length closed → Shed (history v slots oldest closed current next gone) (dropHistory (history v slots oldest closed current next gone))
 unfolding dropLog
 shed-some v slots oldest [] current next gone g d h = absurd (omega (arith, g .least))
@@ -223,16 +219,12 @@ shed r g = go (leb (r .log .slots) (length (r .log .closed))) refl
 
 -- ---- no damage
 
-or-right : (a b : Bool) → b ≡ true → (a || b) ≡ true
-or-right true b e = refl
-or-right false b e = e
-
 -- NOR bytes due for writing are 255
 clear-is : (r : History) (l : Lift) (p : Plan) → Enters (r .log .current) l p → length (r .log .current) < 320 → norClear (image r) (l .load) p ≡ true
 unfolding norClear image stateImage S.norOf
 clear-is r l p e few =
     rw (e .clear)
-    (or-right (not (eqb (length ls % 64) 63)) (allOnes (part (S.norOf ls) (4608 + length ls / 64 * 128) 128)) (ap allOnes free ∙ ones-repeated 128))
+    (or-second (not (eqb (length ls % 64) 63)) (allOnes (part (S.norOf ls) (4608 + length ls / 64 * 128) 128)) (ap allOnes free ∙ ones-repeated 128))
   where
     ls : List Lift
     ls = r .log .current
@@ -252,23 +244,19 @@ clear-is r l p e few =
         room : length ls / 64 * 128 + 128 ≤ length (sectionsOf ls)
         room = omega (arith, long, few, length-append w (repeated (1536 - length w) 255), length-repeated (1536 - length w) 255)
 
-damage-none : (r : World) (slots : ℕ) (load : ℤ) (p : Plan) → isDamaged p ≡ false → (dropsFirst r slots && dropDamage r slots) ≡ false → norClear r load p ≡ true
+damage-none : (r : World) (slots : ℕ) (load : ℤ) (p : Plan) → isDamaged p ≡ false → (dropsFirst (r .state) slots && dropDamage r slots) ≡ false → norClear r load p ≡ true
     → appendDamage r slots load p ≡ false
 unfolding appendDamage
 damage-none r slots load p a b c = rw (a, b, c)
 
 -- ---- pages due are erased
 
-both : (a b : Bool) → a ≡ true → b ≡ true → (a && b) ≡ true
-both true b p q = q
-both false b p q = p
-
 due-erased : (n q : ℕ) (nand : List ℕ) (slot count buckets : ℕ) → ((p : ℕ) → q ≤ p → p < q + n → pageDue count buckets p ≡ true → pageErased nand slot p ≡ true)
     → pagesErased n q nand slot count buckets ≡ true
 unfolding pagesErased
 due-erased zero q nand slot count buckets f = refl
 due-erased (suc n) q nand slot count buckets f =
-    both _ _ (ready (pageDue count buckets q) (f q (omega arith) (omega arith)))
+    and-both _ _ (ready (pageDue count buckets q) (f q (omega arith) (omega arith)))
     (due-erased n (suc q) nand slot count buckets (λ p a b e. f p (omega arith) (omega arith) e))
   where
     ready : (t : Bool) → (t ≡ true → pageErased nand slot q ≡ true) → (not t || pageErased nand slot q) ≡ true
@@ -288,13 +276,9 @@ open-erased r g few p k m =
 due-behind : (count buckets p : ℕ) → count ≤ 320 → pageDue count buckets p ≡ true → count / 16 ≤ p
 due-behind count buckets p few e = go (decLt p 20)
   where
-    right : (a b : Bool) → (a && b) ≡ true → b ≡ true
-    right true b e = e
-    right false b e = cc
-
     go : Dec (p < 20) → count / 16 ≤ p
     go (yes l) =
-        let q : p ≡ count / 16 = eqb-true p (count / 16) (right (not (eqb (count % 16) 0)) (eqb p (count / 16)) (due-lifts count buckets p l ∙ e)) in
+        let q : p ≡ count / 16 = eqb-true p (count / 16) (and-right (not (eqb (count % 16) 0)) (eqb p (count / 16)) (due-lifts count buckets p l ∙ e)) in
         omega arith
     go (no l) = omega arith
 
@@ -358,7 +342,7 @@ module _ (h : History) (g : Good h) (l : Lift) (gl : GoodLift l) (later : h .log
 
   -- a drop if it is due, then the lift
   abbrev finish : Plan → World → ℕ → World
-  finish q w k = putWorld (cond (dropsFirst w k) (dropWorld w k) w) k (l .time) (l .load) (l .note) q
+  finish q w k = putWorld (cond (dropsFirst (w .state) k) (dropWorld w k) w) k (l .time) (l .load) (l .note) q
 
   pub append-world : appendWorld (image h) (h .log .slots) (l .time) (l .load) (l .note) ≡ image (appendHistory h l)
   unfolding appendWorld

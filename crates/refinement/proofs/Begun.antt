@@ -1,27 +1,25 @@
 -- An accepted format leaves the world of the history that has just begun, whatever the chips held. Assumes nothing.
-use mathlib.Core.Path.{_≡_, refl, sym, ap, _∙_}
+use mathlib.Core.Path.{_≡_, refl, sym, _∙_}
 use mathlib.Core.Bool.{Bool, true, false, cond}
-use mathlib.Core.List.{List, [], _∷_}
-use Prim.Native.Nat.{ℕ, _*_, _≤_, _<_}
+use mathlib.Core.List.{List, []}
+use Prim.Native.Nat.{ℕ, _*_, _≤_}
 use native.Mathlib.Omega.{arith}
 use lib.Dec.{eqb}
 use lib.ListN.{length}
 use borrow.Author.Tests.{eq-eqb, le-ltb}
 use Rattle.form.specs.declared.Form.{Form}
 use Rattle.form.specs.declared.Form.the-variants.{Old, New}
-use Rattle.codec.specs.Area.{repeated}
 use Rattle.codec.proofs.Areas.{length-repeated}
 use Rattle.bounds.specs.Grounds.{formatGround}
 use Rattle.flash.specs.Chip.{slotOf, chipErased, erasedPage}
 use Rattle.flash.proofs.Pages.{chips-equal, page-chip-erased}
 use Rattle.bloom.specs.Bloom.{sectionOf, notedAll}
 use Rattle.search.specs.Answers.{rowBytes}
-use Rattle.store.specs.declared.State.{State}
-use Rattle.store.specs.World.{World, liveTime}
-use Rattle.store.specs.Calls.{Outcome, formatted, formatOutcome}
-use Rattle.paper_log.specs.Log.{Lift, Log, begun}
-use Rattle.refinement.specs.Segments as S
-use Rattle.refinement.specs.Image.{History, liveOf, pageFrom, nandImage, stateImage, image}
+use Rattle.store.specs.World.{liveTime}
+use Rattle.store.specs.Calls.{formatted, formatOutcome}
+use Rattle.paper_log.specs.Log.{begun}
+use Rattle.refinement.specs.Inner.Segments as S
+use Rattle.refinement.specs.Inner.Image.{History, liveOf, pageFrom, nandImage, stateImage, image}
 use Rattle.refinement.proofs.Good as G
 use Rattle.refinement.proofs.Good.{Good}
 use Rattle.refinement.proofs.Dead.{none-dead}

@@ -1,31 +1,29 @@
 -- A close of a history's world is the world of the history closed. Assumes nothing.
-use mathlib.Core.Path.{_≡_, refl, sym, ap, ap₂, subst, _∙_}
-use mathlib.Core.Bool.{Bool, true, false, cond}
+use mathlib.Core.Path.{_≡_, refl, sym, ap, subst, _∙_}
+use mathlib.Core.Bool.{cond}
 use mathlib.Core.List.{List, [], _∷_, _++_, map}
-use Prim.Native.Nat.{ℕ, zero, suc, _+_, _-_, _*_, _/_, _%_, _≤_, _<_}
+use Prim.Native.Nat.{ℕ, _+_, _-_, _≤_, _<_}
 use native.Mathlib.Nat.{mod-lt}
 use native.Mathlib.Decide.{ℕ-discrete}
 use native.Mathlib.Omega.{arith}
 use lib.ListN.{length, length-append}
 use Rattle.codec.specs.Area.{repeated}
-use Rattle.codec.proofs.Areas.{length-repeated, repeated-append}
-use Rattle.flash.specs.Chip.{slotOf, pageOf, chipErased, erasedPage}
+use Rattle.codec.proofs.Areas.{repeated-append}
+use Rattle.flash.specs.Chip.{slotOf, pageOf, chipErased}
 use Rattle.flash.proofs.Pages.{chips-equal}
-use Rattle.bloom.specs.Bloom.{emptySection, sectionOf, notedAll}
+use Rattle.bloom.specs.Bloom.{sectionOf, notedAll}
 use Rattle.bloom.specs.Pages.{each}
 use Rattle.segment.specs.Pages.{pageDue, closePage, closeProgrammed}
-use Rattle.segment.specs.declared.Closing.{Closing}
 use Rattle.segment.proofs.ClosedPages.{Shaped, length-closed, page-closed, page-other}
-use Rattle.tree.specs.Rules.{bucketsOf, treeOf, insertMore}
+use Rattle.tree.specs.Rules.{bucketsOf}
 use Rattle.tree.proofs.Built.{tree-of-none, buckets-of}
 use Rattle.tree.proofs.Written.{tree-none}
 use Rattle.search.specs.Answers.{rowBytes}
-use Rattle.store.specs.declared.State.{State}
-use Rattle.store.specs.World.{World, closing, movedOn, closeWorld}
-use Rattle.paper_log.specs.Log.{Lift, Log, openSerial, closeLog, codes}
-use Rattle.refinement.specs.Segments as S
-use Rattle.refinement.specs.Image.{History, oldestHeads, openHeads, pageImage, nandImage, firstStart, stateImage, image}
-use Rattle.refinement.proofs.Good.{GoodLifts, Built, AllBuilt, Times, none, more, Segments, Good}
+use Rattle.store.specs.World.{closing, movedOn, closeWorld}
+use Rattle.paper_log.specs.Log.{Lift, openSerial, closeLog, codes}
+use Rattle.refinement.specs.Inner.Segments as S
+use Rattle.refinement.specs.Inner.Image.{History, oldestHeads, openHeads, pageImage, nandImage, firstStart, stateImage, image}
+use Rattle.refinement.proofs.Good.{Built, AllBuilt, Times, none, more, Segments, Good}
 use Rattle.refinement.proofs.Lengths.{length-nor, length-pageBuffer, length-bloomBuffer}
 use Rattle.refinement.proofs.PageLengths.{four-heads, four-oldest, length-nand, page-of-nand}
 use Rattle.refinement.proofs.ClosePage.{few-buckets, page-after-close}

@@ -1,34 +1,35 @@
 -- What a close leaves in its slot, page by page, is the closed segment's image: each page programmed from the open segment's parts, every
 -- other page of the slot as the open segment had it. Assumes nothing.
 use mathlib.Core.Path.{_≡_, refl, sym, ap, ap₂, subst, _∙_}
-use mathlib.Core.Bool.{Bool, true, false, cond, not, _&&_, _||_}
-use mathlib.Core.List.{List, [], _∷_, _++_}
-use Prim.Native.Nat.{ℕ, zero, suc, _+_, _-_, _*_, _/_, _%_, _≤_, _<_}
+use mathlib.Core.Bool.{Bool, true, false, cond, not, _&&_}
+use mathlib.Core.List.{List, [], _++_}
+use Prim.Native.Nat.{ℕ, _+_, _-_, _*_, _/_, _%_, _≤_, _<_}
 use native.Mathlib.Decide.{decLt}
 use native.Mathlib.Omega.{arith}
-use lib.Dec.{eqb, leb, ltb}
-use lib.ListN.{length, drop, take, length-append, length-drop}
+use lib.Dec.{eqb, ltb}
+use lib.ListN.{length, drop, length-append, length-drop}
 use lib.Seq.{take-length}
-use borrow.Author.Tests.{ltb-true, ltb-false, lt-ltb, le-ltb, eqb-true, eqb-false, eq-eqb, ne-eqb}
+use borrow.Author.Tests.{ltb-false, lt-ltb, le-ltb, eqb-true, eqb-false}
 use Rattle.form.specs.declared.Form.{Form}
 use Rattle.codec.specs.Area.{part, repeated}
-use Rattle.codec.proofs.Areas.{length-repeated, part-append-left, part-append-right, part-repeated, part-add, part-all}
+use Rattle.codec.proofs.Areas.{length-repeated, part-append-left, part-append-right, part-repeated, part-add}
 use Rattle.flash.specs.Chip.{erasedPage}
 use Rattle.bloom.specs.Bloom.{sectionOf}
-use Rattle.bloom.specs.Pages.{each, segmentSections, sectionsFrom, bloomPage, norSection}
+use Rattle.bloom.specs.Pages.{each, fiveSections, segmentSections, sectionsFrom, bloomPage, norSection}
 use Rattle.bloom.proofs.Each.{length-each, getD-each}
 use Rattle.bloom.proofs.Pages.{sections-from-segment}
 use Rattle.skiplist.specs.declared.Pointer.{Pointer}
-use Rattle.segment.specs.Pages.{pageDue, treePage, closePage}
+use Rattle.segment.specs.Pages.{pageDue, closePage}
+use Rattle.segment.proofs.TreeRun.{treeRun}
 use Rattle.segment.specs.Header.{headerPage}
 use Rattle.segment.proofs.Tests.{due-lifts, due-tree, due-last}
 use Rattle.segment.proofs.Turns.{image-lifts, image-tree, image-bloom, image-header}
 use Rattle.tree.specs.Rules.{bucketsOf}
 use Rattle.tree.proofs.Built.{buckets-of, counted}
-use Rattle.tree.proofs.Written.{length-tree, tree-part, tree-rest}
+use Rattle.tree.proofs.Written.{tree-part, tree-rest}
 use Rattle.search.proofs.Rows.{row-at}
 use Rattle.paper_log.specs.Log.{Lift, codes}
-use Rattle.refinement.specs.Segments.{recordsOf, liftArea, liftPage, pageBuffer, treeArea, bucketCount, wholeSections, bloomBuffer, norOf, closingOf, closedPage, openPage}
+use Rattle.refinement.specs.Inner.Segments.{recordsOf, liftArea, liftPage, pageBuffer, treeArea, bucketCount, wholeSections, bloomBuffer, norOf, closingOf, closedPage, openPage}
 use Rattle.refinement.proofs.PageLengths.{length-area}
 use Rattle.refinement.proofs.Good.{GoodLifts, Built}
 use Rattle.refinement.proofs.Lengths.{length-records, length-codes, length-sections, wide-sections, good-loads}
@@ -84,8 +85,8 @@ module _ (ls : List Lift) (b : Built ls) where
   few-buckets = omega (arith, ap length (buckets-of (codes ls) (b .tree) (b .is)), counted (codes ls) (good-loads ls (b .lifts)) (b .tree) (b .is) .few)
 
   -- tree page i
-  pub tree-closed : (i : ℕ) → i < 9 → treePage (norOf ls) (bucketCount ls) i ≡ part (treeArea ls) (i * 512) 512
-  unfolding treePage norOf treeArea
+  pub tree-closed : (i : ℕ) → i < 9 → treeRun (norOf ls) (bucketCount ls) i ≡ part (treeArea ls) (i * 512) 512
+  unfolding treeRun norOf treeArea
   tree-closed i h = tree-part (bucketsOf (codes ls)) _ (i * 512) 512 few-buckets (omega arith)
 
   pub tree-past : (i : ℕ) → i < 9 → bucketCount ls ≤ i * 4 → part (treeArea ls) (i * 512) 512 ≡ erasedPage
@@ -173,9 +174,9 @@ module _ (ls : List Lift) (b : Built ls) where
         rw (← due-last (length ls) (bucketCount ls) 29 (omega arith) (omega arith))
         (image-bloom (norOf ls) (closingOf v n ls heads) 29 (omega arith) (omega arith) ∙ ap (λ (ss : List (List ℕ)). bloomPage ss 0) sections-closed)
 
-    in-second : after 30 ≡ cond (ltb 256 (length ls)) (bloomPage (segmentSections (codes ls)) 1) erasedPage
+    in-second : after 30 ≡ cond (fiveSections (length ls)) (bloomPage (segmentSections (codes ls)) 1) erasedPage
     unfolding closingOf
-    in-second = rw (← due-last (length ls) (bucketCount ls) 30 (omega arith) (omega arith)) (go (ltb 256 (length ls)))
+    in-second = rw (← due-last (length ls) (bucketCount ls) 30 (omega arith) (omega arith)) (go (fiveSections (length ls)))
       where
         go : (t : Bool) → cond t (closePage (norOf ls) (closingOf v n ls heads) 30) (openPage ls 30)
             ≡ cond t (bloomPage (segmentSections (codes ls)) 1) erasedPage

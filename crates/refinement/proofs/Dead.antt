@@ -13,11 +13,10 @@ use Rattle.form.specs.declared.Form.{Form}
 use Rattle.form.specs.declared.Form.the-variants.{Old, New}
 use Rattle.form.specs.Forms.{step}
 use Rattle.skiplist.specs.declared.Pointer.{Pointer}
-use Rattle.skiplist.specs.Skip.{Live, pointing, none, isNone, ageOf, isLive}
+use Rattle.skiplist.specs.Skip.{Live, pointing, none, isNone, ageOf, isLive, noHeads}
 use Rattle.store.specs.World.{liveTime, leastBy}
 use Rattle.paper_log.specs.Log.{Lift}
-use Rattle.refinement.specs.Segments as S
-use Rattle.refinement.specs.Image.{firstStart}
+use Rattle.refinement.specs.Inner.Image.{firstStart}
 use Rattle.refinement.proofs.Good as G
 use Rattle.refinement.proofs.Good.{Times, Segments}
 
@@ -55,7 +54,7 @@ age-below Old slot n t first l = omega arith
 age-below New slot n t first l = omega arith
 
 -- no pointer at all
-pub none-dead : (k : ℕ) (live : Live) → isLive (getD S.noHeads k none) live ≡ false
+pub none-dead : (k : ℕ) (live : Live) → isLive (getD noHeads k none) live ≡ false
 none-dead zero live = refl
 none-dead (suc zero) live = refl
 none-dead (suc (suc zero)) live = refl

@@ -3,25 +3,22 @@
 use mathlib.Core.Path.{_≡_, refl, sym, ap, ap₂, subst, _∙_}
 use mathlib.Core.Bool.{Bool, true, false, cond, not, _&&_, _||_}
 use mathlib.Core.List.{List, [], _∷_, map}
-use Prim.Native.Nat.{ℕ, suc, _*_, _/_, _≤_, _<_}
+use Prim.Native.Nat.{ℕ, _*_, _/_, _≤_}
 use native.Mathlib.Omega.{arith}
 use lib.Dec.{eqb, leb, ltb}
-use lib.IntN.{ℤ, pos, negsuc}
 use lib.ListN.{length}
 use lib.Signed.{ltZ}
-use borrow.Author.Tests.{le-ltb, eqb-true}
 use Rattle.form.specs.declared.Form.{Form}
 use Rattle.lift.specs.Limits.{timeOk, loadOk}
 use Rattle.plate.specs.Plate.{noCounts, countsOf, total}
-use Rattle.bounds.specs.Grounds.{queryGround}
-use Rattle.search.specs.Answers.{TallyAnswer}
+use Rattle.tally.specs.Answers.{TallyAnswer}
 use Rattle.store.specs.World.{World}
 use Rattle.store.specs.Calls.{Outcome, formatOutcome}
-use Rattle.store.specs.Queries.{tallyOutcome}
+use Rattle.questions.specs.Queries.{tallyOutcome}
 use Rattle.paper_log.specs.Log.{Lift, Log, begun, openSerial, codes, found, isFull, closeLog, dropLog, roomLog, shedLog, putLog, appendLog}
 use Rattle.paper_log.specs.Calls as Paper
-use Rattle.refinement.specs.Image.{History, stateImage, image}
-use Rattle.refinement.specs.Run.{Request, append, close, drop, search, callOf, Reply, replies, runAfter, expected, expectedAll, AllTyped, NeverDamage}
+use Rattle.refinement.specs.Inner.Image.{stateImage, image}
+use Rattle.refinement.specs.Run.{Request, append, close, drop, search, callOf, replies, runAfter, expected, expectedAll, AllTyped, NeverDamage}
 use Rattle.refinement.specs.Rules.{AllKept}
 use Rattle.refinement.specs.ReadBack.{segmentsIn}
 use Rattle.refinement.proofs.Good.{Good}

@@ -1,13 +1,13 @@
 -- A drop of a history's world is the world of the history without its oldest serial, and no damage is met. Assumes nothing.
-use mathlib.Core.Path.{_≡_, refl, sym, ap, ap₂, subst, _∙_}
+use mathlib.Core.Path.{_≡_, refl, sym, ap, _∙_}
 use mathlib.Core.Bool.{Bool, true, false, cond, not, _&&_}
-use mathlib.Core.List.{List, [], _∷_, _++_, map}
-use Prim.Native.Nat.{ℕ, zero, suc, _+_, _-_, _*_, _/_, _%_, _≤_, _<_}
+use mathlib.Core.List.{List, [], _∷_, _++_}
+use Prim.Native.Nat.{ℕ, suc, _+_, _-_, _≤_, _<_}
 use native.Mathlib.Decide.{ℕ-discrete, decLt}
 use native.Mathlib.Omega.{arith}
-use lib.Dec.{eqb, leb, ltb}
+use lib.Dec.{eqb}
 use lib.ListN.{length, getD, length-append}
-use borrow.Author.Tests.{lt-ltb, le-ltb, eq-eqb, ne-eqb}
+use borrow.Author.Tests.{lt-ltb, le-ltb, ne-eqb}
 use Rattle.form.specs.declared.Form.{Form}
 use Rattle.form.specs.Forms.{step}
 use Rattle.flash.specs.Chip.{slotOf, pageOf, slotErased, erasedPage}
@@ -15,15 +15,14 @@ use Rattle.flash.proofs.Pages.{chips-equal, length-slot-erased, page-slot-erase
 use Rattle.skiplist.specs.declared.Pointer.{Pointer}
 use Rattle.skiplist.proofs.Nodes.{heads-below, heads-above}
 use Rattle.segment.proofs.HeaderBytes.{level-most}
-use Rattle.skiplist.specs.Skip.{Live, pointing, none, isLive, levelOf, headsAfter}
+use Rattle.skiplist.specs.Skip.{Live, pointing, none, isLive, levelOf, headsAfter, noHeads}
 use Rattle.segment.specs.declared.Header.{Header}
-use Rattle.store.specs.declared.State.{State}
-use Rattle.store.specs.World.{World, liveTime, oldestBy, nextOldest, closedRemains, liveAfter, withoutOldest, dropWorld}
+use Rattle.store.specs.World.{liveTime, oldestBy, nextOldest, closedRemains, liveAfter, withoutOldest, dropWorld}
 use Rattle.store.specs.Calls.{readsHeader, dropDamage}
-use Rattle.paper_log.specs.Log.{Lift, Log, openSerial, dropLog}
-use Rattle.refinement.specs.Segments as S
-use Rattle.refinement.specs.Image.{History, oldestHeads, pageFrom, pageImage, nandImage, firstStart, liveOf, stateImage, image}
-use Rattle.refinement.proofs.Good.{Built, AllBuilt, Times, Segments, Limited, Good}
+use Rattle.paper_log.specs.Log.{Lift, openSerial, dropLog}
+use Rattle.refinement.specs.Inner.Segments as S
+use Rattle.refinement.specs.Inner.Image.{History, oldestHeads, pageFrom, pageImage, nandImage, firstStart, liveOf, stateImage, image}
+use Rattle.refinement.proofs.Good.{Limited, Good}
 use Rattle.flash.proofs.Slots.{slots-differ, slot-below}
 use Rattle.refinement.proofs.PageLengths.{four-oldest, length-nand, page-of-nand}
 use Rattle.refinement.proofs.PageFrom.{open-none}
@@ -107,7 +106,7 @@ module _ (v : Form) (slots oldest : ℕ) (ms : List Lift) (rest : List (List Lif
   unfolding dropLog
   heads-left =
       let e : 1 + length gone ≡ oldest = omega (arith, g .serial) in
-      heads-gone v slots 1 gone (S.startTime ms) S.noHeads
+      heads-gone v slots 1 gone (S.startTime ms) noHeads
       ∙ ap (λ (n : ℕ). headsAfter (oldestHeads h) (levelOf n) (pointing v (slotOf n slots) n (S.startTime ms))) e
 
   own : Among (step v) (g .before) [] ms rest (g .begun)

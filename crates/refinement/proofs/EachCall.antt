@@ -1,27 +1,26 @@
 -- Demand 3 on the chips: in every list of calls, what each call changed of NAND and NOR. Assumes nothing.
-use mathlib.Core.Path.{_≡_, refl, sym, ap, subst, _∙_}
+use mathlib.Core.Path.{_≡_, refl, sym, subst, _∙_}
 use mathlib.Core.Bool.{Bool, true, false, cond}
-use mathlib.Core.List.{List, [], _∷_, _++_}
+use mathlib.Core.List.{List, [], _∷_}
 use mathlib.Core.Logic.{_⊎_, inl, inr}
 use Prim.Native.Nat.{ℕ, _+_, _≤_, _<_}
 use native.Mathlib.Omega.{arith}
 use lib.Dec.{eqb}
-use lib.ListN.{length, length-append}
+use lib.ListN.{length-append}
 use borrow.Author.Tests.{eqb-true}
-use Rattle.flash.specs.Chip.{slotOf}
 use Rattle.flash.specs.Clears.{OnlyClears}
 use Rattle.flash.proofs.Clearing.{clears-none}
 use Rattle.store.specs.World.{World}
 use Rattle.paper_log.specs.Log.{Lift, Log, openSerial, closeLog, dropLog, putLog, isFull}
 use Rattle.paper_log.specs.Calls as Paper
-use Rattle.refinement.specs.Segments as S
-use Rattle.refinement.specs.Image.{History, nandImage, image}
-use Rattle.refinement.specs.Rules.{PagesKept, Kept, AllKept}
-use Rattle.refinement.specs.Run.{Request, append, close, drop, search, callOf, worldAfter, Typed, AllTyped}
+use Rattle.refinement.specs.Inner.Segments as S
+use Rattle.refinement.specs.Inner.Image.{History, image}
+use Rattle.refinement.specs.Rules.{Kept, AllKept}
+use Rattle.refinement.specs.Run.{Request, append, close, drop, search, callOf, Typed, AllTyped}
 use Rattle.refinement.proofs.Good.{GoodLift, Good}
 use Rattle.refinement.proofs.Close.{closeHistory}
-use Rattle.refinement.proofs.Drop.{history, dropHistory}
-use Rattle.refinement.proofs.Append.{roomHistory, shedHistory, appendHistory, Roomy, roomy, Shed, shed}
+use Rattle.refinement.proofs.Drop.{dropHistory}
+use Rattle.refinement.proofs.Append.{roomHistory, appendHistory, roomy, shed}
 use Rattle.refinement.proofs.Steps.{after, after-log, close-some, drop-some, append-some}
 use Rattle.refinement.proofs.PagesKept.{kept-same, close-kept, some-kept, append-kept}
 use Rattle.refinement.proofs.NorClears.{append-clears}

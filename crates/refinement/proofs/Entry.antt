@@ -1,29 +1,27 @@
 -- Where a lift's entry goes on a history's world: the plan on NOR's bytes is the rules' choice, meets no damage, and its writes give the tree
 -- with the load. Assumes nothing.
-use mathlib.Core.Path.{_≡_, refl, sym, ap, ap₂, subst, _∙_}
-use mathlib.Core.Bool.{Bool, true, false, cond, _&&_, _||_}
-use mathlib.Core.Option.{Option, none, some}
+use mathlib.Core.Path.{_≡_, refl, sym, ap, subst, _∙_}
+use mathlib.Core.Bool.{true, false}
+use mathlib.Core.Option.{some}
 use mathlib.Core.List.{List, [], _∷_, _++_, map, append-nil}
-use Prim.Native.Nat.{ℕ, zero, suc, _+_, _-_, _*_, _/_, _%_, _≤_, _<_}
+use Prim.Native.Nat.{ℕ, zero, suc, _+_, _-_, _≤_, _<_}
 use native.Mathlib.Omega.{arith}
-use lib.Dec.{eqb, leb, ltb}
-use lib.IntN.{ℤ, pos}
-use lib.ListN.{length, drop, replicate, length-map}
-use borrow.Author.Tests.{eqb-true, eqb-false, eq-eqb, ne-eqb}
-use Rattle.codec.specs.Area.{part, repeated}
+use lib.IntN.{ℤ}
+use lib.ListN.{length, drop, length-map}
+use Rattle.codec.specs.Area.{repeated}
 use Rattle.flash.specs.Chip.{norTree}
-use Rattle.lift.specs.Limits.{stored, loadOk}
+use Rattle.lift.specs.Limits.{stored}
 use Rattle.lift.proofs.Codes.{within-limits}
-use Rattle.tree.specs.Rules.{Bucket, treeOf, bucketsOf, needsBucket36, lastLoads, Loads}
+use Rattle.tree.specs.Rules.{Bucket, treeOf, bucketsOf, needsBucket36, lastLoads}
 use Rattle.tree.specs.Bytes.{treeBytes}
-use Rattle.tree.specs.Plan.{Plan, noRoom, newRoot, planOn, isDamaged, isNoRoom}
+use Rattle.tree.specs.Plan.{Plan, noRoom, planOn, isDamaged, isNoRoom}
 use Rattle.tree.specs.Writes.{writesOf, allClear, allWritten, bucketsAfter}
 use Rattle.tree.proofs.Built.{buckets-of, needs-not, tree-of-none, tree-of-one}
 use Rattle.tree.proofs.Inserted as I
-use Rattle.tree.proofs.Written.{length-tree, tree-of-nor}
-use Rattle.paper_log.specs.Log.{Lift, codes, isFull}
-use Rattle.refinement.specs.Segments as S
-use Rattle.refinement.proofs.Good.{GoodLift, GoodLifts, Built}
+use Rattle.tree.proofs.Written.{tree-of-nor}
+use Rattle.paper_log.specs.Log.{Lift, codes}
+use Rattle.refinement.specs.Inner.Segments as S
+use Rattle.refinement.proofs.Good.{GoodLift, Built}
 use Rattle.refinement.proofs.Lengths.{good-loads, length-codes}
 use Rattle.refinement.proofs.OneMore as O
 

@@ -7,10 +7,10 @@ use Prim.Native.Nat.{ℕ, _+_, _≤_, _<_}
 use lib.ListN.{length, getD}
 use Rattle.form.specs.Forms.{step}
 use Rattle.skiplist.specs.Skip as Skip
-use Rattle.lift.specs.Limits.{timeOk, loadOk}
+use Rattle.lift.specs.Limits.{loadOk}
 use Rattle.tree.specs.Rules.{Bucket, treeOf}
-use Rattle.paper_log.specs.Log.{Lift, Log, openSerial, codes}
-use Rattle.refinement.specs.Image.{History, oldestHeads, liveOf}
+use Rattle.paper_log.specs.Log.{Lift, openSerial, codes}
+use Rattle.refinement.specs.Inner.Image.{History, oldestHeads, liveOf}
 
 -- a lift that an append has accepted
 pub record GoodLift (l : Lift) : Type 0 where

@@ -1,27 +1,24 @@
 -- The numbers of the calls that write, on a history's world, are the paper log's. Assumes nothing.
-use mathlib.Core.Path.{_≡_, refl, sym, ap, ap₂, subst, _∙_}
-use mathlib.Core.Bool.{Bool, true, false, cond, not, _&&_, _||_}
-use mathlib.Core.List.{List, [], _∷_, _++_}
+use mathlib.Core.Path.{_≡_, refl, _∙_}
+use mathlib.Core.Bool.{Bool, true, false, not, _||_}
+use mathlib.Core.List.{List, [], _∷_}
 use Prim.Native.Nat.{ℕ, zero, suc, _+_, _-_, _*_, _≤_, _<_}
-use native.Mathlib.Decide.{ℕ-discrete, decLt, decLe}
+use native.Mathlib.Decide.{ℕ-discrete}
 use native.Mathlib.Omega.{arith}
 use lib.Dec.{eqb, leb, ltb}
-use lib.IntN.{ℤ}
 use lib.ListN.{length}
-use borrow.Author.Tests.{eqb-true, eqb-false, eq-eqb, ne-eqb, lt-ltb, le-ltb, ltb-false, leb-false, leb-true}
+use borrow.Author.Tests.{eqb-true, eq-eqb, ne-eqb, le-ltb, ltb-false, leb-false}
 use Rattle.form.specs.declared.Form.{Form}
 use Rattle.bounds.specs.Grounds as B
-use Rattle.bounds.specs.Grounds.{nandBad, norBad}
+use Rattle.bounds.specs.Grounds.{nandBad}
 use Rattle.flash.specs.Chip.{slotOf}
 use Rattle.lift.specs.Limits.{timeOk, loadOk}
-use Rattle.store.specs.Bounds.{withinBounds}
-use Rattle.store.specs.World.{World, closeWorld, dropWorld}
 use Rattle.segment.specs.Pages.{closeErased}
-use Rattle.store.specs.Calls.{Outcome, stateGround, closeGround, dropGround, appendGround, dropDamage, planOf, roomWorld, appendDamage, appendUnerased}
-use Rattle.paper_log.specs.Log.{Lift, Log, openSerial}
+use Rattle.store.specs.Calls.{stateGround, closeGround, dropGround, appendGround, dropDamage, planOf, roomWorld, appendDamage, appendUnerased}
+use Rattle.paper_log.specs.Log.{Lift, openSerial}
 use Rattle.paper_log.specs.Calls as Paper
-use Rattle.refinement.specs.Segments as S
-use Rattle.refinement.specs.Image.{History, nandImage, stateImage, image}
+use Rattle.refinement.specs.Inner.Segments as S
+use Rattle.refinement.specs.Inner.Image.{History, nandImage, stateImage, image}
 use Rattle.refinement.proofs.Good.{GoodLift, Good}
 use Rattle.refinement.proofs.Lengths.{length-nor}
 use Rattle.refinement.proofs.PageLengths.{length-nand}

@@ -1,14 +1,15 @@
 -- The state of a good history breaks no bound. Assumes nothing.
-use mathlib.Core.Path.{_≡_, refl, sym, ap, ap₂, _∙_}
+use mathlib.Core.Path.{_≡_, refl, sym, ap, _∙_}
 use mathlib.Core.Bool.{Bool, true, false, cond, not, _&&_, _||_}
 use mathlib.Core.List.{List, [], _∷_, _++_, map}
-use Prim.Native.Nat.{ℕ, zero, suc, _+_, _-_, _*_, _≤_, _<_}
+use Prim.Native.Nat.{ℕ, zero, suc, _+_, _-_, _≤_, _<_}
 use native.Mathlib.Omega.{arith}
 use lib.Dec.{eqb, leb, ltb}
 use lib.IntN.{ℤ, pos, negsuc}
-use lib.ListN.{length, drop, replicate, length-append}
+use lib.ListN.{length, drop, replicate}
 use lib.Signed.{leZ, ltZ}
 use borrow.Author.Tests.{le-leb, lt-ltb, eq-eqb, ne-eqb, leb-true, ltb-true, eqb-true, eqb-false}
+use Rattle.codec.proofs.Truth.{and-both, and-parts, and-right, or-second}
 use Rattle.form.specs.Forms.{step}
 use Rattle.form.specs.declared.Form.the-variants.{Old, New}
 use Rattle.form.specs.declared.Form.{Form}
@@ -18,34 +19,18 @@ use Rattle.flash.specs.Chip.{slotOf}
 use Rattle.lift.specs.Limits.{loadOk}
 use Rattle.tree.proofs.Built.{buckets-of, counted}
 use Rattle.skiplist.specs.declared.Pointer.{Pointer}
-use Rattle.skiplist.specs.Skip.{pointing, none, isNone, inSlots, levelOf, headsAfter}
+use Rattle.skiplist.specs.Skip.{pointing, none, isNone, inSlots, levelOf, headsAfter, noHeads}
 use Rattle.store.specs.World.{liveTime}
 use Rattle.store.specs.Bounds.{headsOk, withinBounds}
-use Rattle.paper_log.specs.Log.{Lift, Log, openSerial, codes}
-use Rattle.refinement.specs.Segments as S
-use Rattle.refinement.specs.Image.{History, openHeads, oldestHeads, firstStart, oldestTime, stateImage}
+use Rattle.paper_log.specs.Log.{Lift, openSerial, codes}
+use Rattle.refinement.specs.Inner.Segments as S
+use Rattle.refinement.specs.Inner.Image.{History, oldestHeads, firstStart, oldestTime, stateImage}
 use Rattle.flash.proofs.Slots.{slot-below}
 use Rattle.refinement.proofs.Lengths.{good-loads}
 use Rattle.refinement.proofs.ClosePage.{few-buckets}
 use Rattle.refinement.proofs.Close.{no-buckets}
 use Rattle.refinement.proofs.Good as G
 use Rattle.refinement.proofs.Good.{GoodLifts, Built, Times, Segments, Good}
-
-pub both : (a b : Bool) → a ≡ true → b ≡ true → (a && b) ≡ true
-both true b p q = q
-both false b p q = p
-
-and-right : (a b : Bool) → (a && b) ≡ true → b ≡ true
-and-right true b e = e
-and-right false b e = cc
-
-pub or-right : (a b : Bool) → b ≡ true → (a || b) ≡ true
-or-right true b e = refl
-or-right false b e = e
-
-pub tests-both : (a b : Bool) → (a && b) ≡ true → (a ≡ true) × (b ≡ true)
-tests-both true b e = (refl, e)
-tests-both false b e = (e, cc)
 
 -- two tests that agree
 agree : (a b : Bool) → a ≡ b → exactly a b ≡ true
@@ -59,14 +44,14 @@ unfolding serialsOk
 serials h g =
     let first = g .serial in
     let d : openSerial (h .log) - h .log .oldest ≡ length (h .log .closed) = omega arith in
-    both _ _
-    (both _ _ (le-leb 1 (h .log .oldest) (omega arith))
-    (both _ _ (le-leb (h .log .oldest) (openSerial (h .log)) (omega arith)) (le-leb (openSerial (h .log)) 999999999 (g .last))))
-    (rw d (both _ _ (le-leb _ _ (g .room)) (fewer (length (h .log .current)) (g .busy))))
+    and-both _ _
+    (and-both _ _ (le-leb 1 (h .log .oldest) (omega arith))
+    (and-both _ _ (le-leb (h .log .oldest) (openSerial (h .log)) (omega arith)) (le-leb (openSerial (h .log)) 999999999 (g .last))))
+    (rw d (and-both _ _ (le-leb _ _ (g .room)) (fewer (length (h .log .current)) (g .busy))))
   where
     fewer : (n : ℕ) → (0 < n → length (h .log .closed) < h .log .slots) → (eqb n 0 || ltb (length (h .log .closed)) (h .log .slots)) ≡ true
     fewer zero f = refl
-    fewer (suc n) f = or-right (eqb (suc n) 0) (ltb (length (h .log .closed)) (h .log .slots)) (lt-ltb (length (h .log .closed)) (h .log .slots) (f (omega arith)))
+    fewer (suc n) f = or-second (eqb (suc n) 0) (ltb (length (h .log .closed)) (h .log .slots)) (lt-ltb (length (h .log .closed)) (h .log .slots) (f (omega arith)))
 
 -- ---- counts
 
@@ -80,11 +65,11 @@ bucket-none (l ∷ ls) b =
 counts : (h : History) → Good h → countsOk (openSerial (h .log)) (length (h .log .current)) (S.bucketCount (h .log .current)) ≡ true
 unfolding countsOk
 counts h g =
-    both _ _ (both _ _ (le-leb _ _ (g .segment .few)) (le-leb _ _ (few-buckets (h .log .current) (g .segment))))
-    (both _ _ (agree _ _ (bucket-none (h .log .current) (g .segment))) (end (length (h .log .current)) (g .still)))
+    and-both _ _ (and-both _ _ (le-leb _ _ (g .segment .few)) (le-leb _ _ (few-buckets (h .log .current) (g .segment))))
+    (and-both _ _ (agree _ _ (bucket-none (h .log .current) (g .segment))) (end (length (h .log .current)) (g .still)))
   where
     end : (n : ℕ) → (0 < n → openSerial (h .log) ≤ 999999998) → (not (eqb (openSerial (h .log)) 999999999) || eqb n 0) ≡ true
-    end zero f = or-right (not (eqb (openSerial (h .log)) 999999999)) true refl
+    end zero f = or-second (not (eqb (openSerial (h .log)) 999999999)) true refl
     end (suc n) f = rw (ne-eqb (openSerial (h .log)) 999999999 (λ e. omega (arith, f (omega arith))))
 
 -- ---- times
@@ -119,11 +104,11 @@ fresh-from : (gone : List ℕ) (closed : List (List Lift)) (ls : List Lift) (old
     → (t : Bool) → (eqb (oldest + length closed) 1 && eqb (length ls) 0) ≡ t → cond t (m ≡ 0) (d ≤ m)
 fresh-from [] [] [] oldest G.none G.none e f l true t = f refl
 fresh-from (x ∷ gone) [] [] oldest G.none G.none e f l true t =
-    absurd (omega (arith, eqb-true (oldest + 0) 1 (tests-both _ _ t .0)))
+    absurd (omega (arith, eqb-true (oldest + 0) 1 (and-parts _ _ t .0)))
 fresh-from gone (ms ∷ rest) [] oldest s u e f l true t =
-    absurd (omega (arith, eqb-true (oldest + suc (length rest)) 1 (tests-both _ _ t .0)))
+    absurd (omega (arith, eqb-true (oldest + suc (length rest)) 1 (and-parts _ _ t .0)))
 fresh-from gone closed (k ∷ ls) oldest s u e f l true t =
-    absurd (omega (arith, eqb-true (suc (length ls)) 0 (tests-both (eqb (oldest + length closed) 1) (eqb (suc (length ls)) 0) t .1)))
+    absurd (omega (arith, eqb-true (suc (length ls)) 0 (and-parts (eqb (oldest + length closed) 1) (eqb (suc (length ls)) 0) t .1)))
 fresh-from [] [] [] oldest G.none G.none e f l false t =
     let d : oldest + 0 ≡ 1 = omega arith in
     let z : _≡_ {A = ℕ} 0 1 = cc (rw (eq-eqb (oldest + 0) 1 d) at t) in
@@ -160,8 +145,8 @@ times h g = go (h .log .form) refl
         let n : h .log .next ≤ 1000000000000000 = omega (arith, g .end) in
         let f : firstStart (h .log .closed) (h .log .current) (h .log .next) ≤ 1000000000000000 = omega (arith, live-most h g) in
         let s : S.startTime (h .log .current) ≤ 1000000000000000 = omega (arith, start-most h g) in
-        both _ _ (both _ _ (le-leb _ _ n) (both _ _ (le-leb _ _ f) (le-leb _ _ s)))
-        (both _ _ (zero-when (isNew h) refl d) (with-lifts (eqb (length (h .log .current)) 0) refl d))
+        and-both _ _ (and-both _ _ (le-leb _ _ n) (and-both _ _ (le-leb _ _ f) (le-leb _ _ s)))
+        (and-both _ _ (zero-when (isNew h) refl d) (with-lifts (eqb (length (h .log .current)) 0) refl d))
       where
         zero-when : (t : Bool) → isNew h ≡ t → step (h .log .form) ≡ 1 → exactly (eqb (h .log .next) 0) (isNew h) ≡ true
         zero-when true q d = agree _ _ (eq-eqb (h .log .next) 0 (fresh h g true q) ∙ sym q)
@@ -170,12 +155,12 @@ times h g = go (h .log .form) refl
         with-lifts : (t : Bool) → eqb (length (h .log .current)) 0 ≡ t → step (h .log .form) ≡ 1
             → (eqb (length (h .log .current)) 0 || ltb (S.startTime (h .log .current)) (h .log .next)) ≡ true
         with-lifts true q d = rw q
-        with-lifts false q d = or-right (eqb (length (h .log .current)) 0) (ltb (S.startTime (h .log .current)) (h .log .next)) (lt-ltb (S.startTime (h .log .current)) (h .log .next) (omega (arith, start-step h g q)))
+        with-lifts false q d = or-second (eqb (length (h .log .current)) 0) (ltb (S.startTime (h .log .current)) (h .log .next)) (lt-ltb (S.startTime (h .log .current)) (h .log .next) (omega (arith, start-step h g q)))
     go New e =
         let d : step (h .log .form) ≡ 0 = ap step e in
         let n : h .log .next ≤ 999999999999999 = omega (arith, g .end) in
         let s : S.startTime (h .log .current) ≤ 1000000000000000 = omega (arith, start-most h g) in
-        both _ _ (both _ _ (le-leb _ _ n) (le-leb _ _ s)) (both _ _ (zero-if (isNew h) refl) (with-lifts (eqb (length (h .log .current)) 0) refl d))
+        and-both _ _ (and-both _ _ (le-leb _ _ n) (le-leb _ _ s)) (and-both _ _ (zero-if (isNew h) refl) (with-lifts (eqb (length (h .log .current)) 0) refl d))
       where
         zero-if : (t : Bool) → isNew h ≡ t → (not (isNew h) || eqb (h .log .next) 0) ≡ true
         zero-if true q = rw (q, eq-eqb (h .log .next) 0 (fresh h g true q))
@@ -184,7 +169,7 @@ times h g = go (h .log .form) refl
         with-lifts : (t : Bool) → eqb (length (h .log .current)) 0 ≡ t → step (h .log .form) ≡ 0
             → (eqb (length (h .log .current)) 0 || leb (S.startTime (h .log .current)) (h .log .next)) ≡ true
         with-lifts true q d = rw q
-        with-lifts false q d = or-right (eqb (length (h .log .current)) 0) (leb (S.startTime (h .log .current)) (h .log .next)) (le-leb (S.startTime (h .log .current)) (h .log .next) (omega (arith, start-step h g q)))
+        with-lifts false q d = or-second (eqb (length (h .log .current)) 0) (leb (S.startTime (h .log .current)) (h .log .next)) (le-leb (S.startTime (h .log .current)) (h .log .next) (omega (arith, start-step h g q)))
 
 -- ---- loads
 
@@ -251,14 +236,14 @@ span [] g = refl
 span (l ∷ ls) g =
     let low : ℤ = S.lowFrom (l .load) (S.loadsOf ls) in
     let high : ℤ = S.highFrom (l .load) (S.loadsOf ls) in
-    both _ _ (both _ _ (low-ok (l .load) ls (g .0 .load) (g .1)) (high-ok (l .load) ls (g .0 .load) (g .1)))
-    (or-right (eqb (suc (length ls)) 0) (leZ low high)
+    and-both _ _ (and-both _ _ (low-ok (l .load) ls (g .0 .load) (g .1)) (high-ok (l .load) ls (g .0 .load) (g .1)))
+    (or-second (eqb (suc (length ls)) 0) (leZ low high)
     (low-most (l .load) high (S.loadsOf ls) (high-least (l .load) (l .load) (S.loadsOf ls) (le-self (l .load)))))
 
 all-ok : (ls : List Lift) → GoodLifts ls → loadsOk (S.loadsOf ls) ≡ true
 unfolding loadsOk
 all-ok [] g = refl
-all-ok (l ∷ ls) g = both _ _ (g .0 .load) (all-ok ls (g .1))
+all-ok (l ∷ ls) g = and-both _ _ (g .0 .load) (all-ok ls (g .1))
 
 ok-drop : (n : ℕ) (ls : List ℤ) → loadsOk ls ≡ true → loadsOk (drop n ls) ≡ true
 unfolding loadsOk
@@ -290,7 +275,7 @@ ok-replicate : (slots level : ℕ) (p : Pointer) (rest : List Pointer) → inSlo
     → headsOk (replicate level p ++ rest) slots ≡ true
 unfolding headsOk
 ok-replicate slots zero p rest e f = f
-ok-replicate slots (suc n) p rest e f = both _ _ e (ok-replicate slots n p rest e f)
+ok-replicate slots (suc n) p rest e f = and-both _ _ e (ok-replicate slots n p rest e f)
 
 ok-later : (slots n : ℕ) (ps : List Pointer) → headsOk ps slots ≡ true → headsOk (drop n ps) slots ≡ true
 unfolding headsOk
@@ -304,7 +289,7 @@ heads-ok v slots n [] heads h e = e
 heads-ok v slots n (t ∷ ts) heads h e =
     heads-ok v slots (suc n) ts _ h
     (ok-replicate slots (levelOf n) (pointing v (slotOf n slots) n t) (drop (levelOf n) heads)
-    (or-right (isNone (pointing v (slotOf n slots) n t)) (ltb (slotOf n slots) slots) (lt-ltb (slotOf n slots) slots (slot-below slots n h)))
+    (or-second (isNone (pointing v (slotOf n slots) n t)) (ltb (slotOf n slots) slots) (lt-ltb (slotOf n slots) slots (slot-below slots n h)))
     (ok-later slots (levelOf n) heads e))
 
 -- ---- all of them
@@ -313,6 +298,6 @@ pub in-bounds : (h : History) → Good h → withinBounds (h .log .form) (stateI
 unfolding withinBounds stateImage headsOk
 in-bounds h g =
     let s : 1 ≤ h .log .slots = omega (arith, g .least) in
-    both _ _ (serials h g) (both _ _ (counts h g) (both _ _ (times h g) (both _ _ (span (h .log .current) (g .segment .lifts))
-    (both _ _ (loads (h .log .current) (g .segment .lifts))
-    (heads-ok (h .log .form) (h .log .slots) (h .log .oldest) (map S.startTime (h .log .closed)) (oldestHeads h) s (heads-ok (h .log .form) (h .log .slots) 1 (h .gone) S.noHeads s refl))))))
+    and-both _ _ (serials h g) (and-both _ _ (counts h g) (and-both _ _ (times h g) (and-both _ _ (span (h .log .current) (g .segment .lifts))
+    (and-both _ _ (loads (h .log .current) (g .segment .lifts))
+    (heads-ok (h .log .form) (h .log .slots) (h .log .oldest) (map S.startTime (h .log .closed)) (oldestHeads h) s (heads-ok (h .log .form) (h .log .slots) 1 (h .gone) noHeads s refl))))))

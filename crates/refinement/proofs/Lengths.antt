@@ -1,10 +1,9 @@
 -- Lengths of the parts of an image. Assumes nothing.
-use mathlib.Core.Path.{_≡_, refl, sym, ap, ap₂, _∙_}
-use mathlib.Core.Bool.{Bool, true, false, cond}
+use mathlib.Core.Path.{_≡_, ap, _∙_}
 use mathlib.Core.List.{List, [], _∷_, _++_, map}
-use Prim.Native.Nat.{ℕ, zero, suc, _+_, _-_, _*_, _/_, _%_, _≤_, _<_}
+use Prim.Native.Nat.{ℕ, zero, suc, _+_, _-_, _*_, _/_, _≤_, _<_}
 use native.Mathlib.Omega.{arith}
-use lib.ListN.{length, drop, getD, length-append, length-drop, length-map}
+use lib.ListN.{length, drop, length-append, length-drop, length-map}
 use Rattle.codec.specs.Area.{part, repeated}
 use Rattle.codec.proofs.Areas.{length-repeated, length-part}
 use Rattle.lift.specs.Limits.{stored}
@@ -14,13 +13,13 @@ use Rattle.bloom.specs.Bloom.{sectionOf}
 use Rattle.bloom.specs.Pages.{each}
 use Rattle.bloom.proofs.Each.{length-each}
 use Rattle.bloom.proofs.Section.{length-sectionOf}
-use Rattle.tree.specs.Rules.{bucketsOf, Loads}
+use Rattle.tree.specs.Rules.{bucketsOf}
+use Rattle.tree.specs.Inner.Loads.{Loads}
 use Rattle.tree.proofs.Written.{length-tree}
-use Rattle.search.specs.Answers.{rowBytes}
 use Rattle.search.proofs.Rows.{Wide, length-rows}
 use Rattle.paper_log.specs.Log.{Lift, rowOf, codes}
-use Rattle.refinement.specs.Segments.{recordsOf, liftArea, liftPage, pageBuffer, bloomBuffer, wholeSections, norOf, treeArea}
-use Rattle.refinement.proofs.Good.{GoodLift, GoodLifts, Built}
+use Rattle.refinement.specs.Inner.Segments.{recordsOf, liftArea, liftPage, pageBuffer, bloomBuffer, wholeSections, norOf, treeArea}
+use Rattle.refinement.proofs.Good.{GoodLifts}
 
 -- ---- records
 

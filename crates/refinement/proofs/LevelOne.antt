@@ -8,7 +8,8 @@ use Prim.Native.Nat.{ℕ, zero, suc, _+_, _-_, _*_, _≤_, _<_}
 use native.Mathlib.Omega.{arith}
 use lib.IntN.{ℤ}
 use lib.ListN.{length, length-append}
-use borrow.Author.Tests.{leb-true, ltb-true, lt-ltb, le-ltb}
+use borrow.Author.Tests.{leb-true, ltb-true, lt-ltb, le-ltb, eq-eqb}
+use Rattle.codec.proofs.Truth.{or-second}
 use Rattle.form.specs.declared.Form.{Form}
 use Rattle.form.specs.declared.Form.the-variants.{Old, New}
 use Rattle.form.specs.Forms as Forms
@@ -27,15 +28,15 @@ use Rattle.walk.specs.declared.Step.the-variants.{End, Damage, Pass, Visit}
 use Rattle.walk.specs.Seek.{isLast}
 use Rattle.walk.specs.Visit.{isPassed, cursorAfter, closedOf, advanceOf, closedRows}
 use Rattle.search.specs.Found.{joinRows, rowsFrom}
-use Rattle.store.specs.Queries.{queryOf}
+use Rattle.questions.specs.Queries.{queryOf}
 use Rattle.paper_log.specs.Log.{Lift, rowOf, codes, among, joined}
-use Rattle.refinement.specs.Segments as S
-use Rattle.refinement.specs.Image.{History, oldestHeads, nandImage, liveOf}
+use Rattle.refinement.specs.Inner.Segments as S
+use Rattle.refinement.specs.Inner.Image.{History, oldestHeads, nandImage, liveOf}
 use Rattle.refinement.proofs.Good.{Good}
 use Rattle.refinement.proofs.Lengths.{length-liftArea, length-codes}
 use Rattle.refinement.proofs.PageLengths.{length-nand, length-area, length-pageImage, page-of-nand}
 use Rattle.flash.proofs.Slots.{slot-below}
-use Rattle.refinement.proofs.InBounds.{or-right, start-below}
+use Rattle.refinement.proofs.InBounds.{start-below}
 use Rattle.refinement.proofs.PageFrom.{headsAt}
 use Rattle.refinement.proofs.Retained.{facts, built, retained-page, retained-header}
 use Rattle.refinement.proofs.Wanted.{map-append, joined-append, among-append, early-all}
@@ -97,7 +98,7 @@ module _ (h : History) (g : Good h) (before : List (List Lift)) (ls : List Lift)
   unfolding S.closedPage
   second-page l =
       let c = length-codes ls in
-      retained-page h g before ls after is 30 (omega arith) ∙ rw (lt-ltb 256 (length ls) (omega arith))
+      retained-page h g before ls after is 30 (omega arith) ∙ rw (eq-eqb (sectionCount (length ls)) 5 (omega (arith, built h g before ls after is .few)))
 
   module _ (t1 t2 : ℕ) (k1 k2 : ℤ) (ok1 : loadOk k1 ≡ true) (ok2 : loadOk k2 ≡ true) where
     visited : closedRows (nandImage h) (closedOf slot header) (queryOf t1 t2 k1 k2) ≡ some (map rowOf (among t1 t2 k1 k2 ls))
@@ -202,7 +203,7 @@ module _ (h : History) (g : Good h) (t1 t2 : ℕ) (k1 k2 : ℤ) (ok1 : loadOk k1
     where
       go : (t : Bool) → c .last ≡ t → Leads h b 0 (c .next) → took n (advanced c) ≡ some (map rowOf (wantedIn b))
       go true e lead = rw (ends c (rw e), last e)
-      go false e (dead d z) = rw (ends c (or-right (c .last) _ (rw d)), z refl)
+      go false e (dead d z) = rw (ends c (or-second (c .last) _ (rw d)), z refl)
       go false e (to before ls after eq z p) =
           let whole : b ≡ before ++ (ls ∷ []) = eq ∙ ap (λ (x : List (List Lift)). before ++ (ls ∷ x)) (z refl) in
           let there : h .log .closed ≡ before ++ (ls ∷ rest) =

@@ -1,34 +1,33 @@
 -- An append that closes no segment only turns ones of NOR to zeros. Assumes nothing.
-use mathlib.Core.Path.{_≡_, refl, sym, ap, subst, _∙_}
+use mathlib.Core.Path.{_≡_, sym, ap, subst, _∙_}
 use mathlib.Core.Bool.{Bool, true, false, cond}
 use mathlib.Core.List.{List, [], _∷_, _++_}
 use Prim.Native.Nat.{ℕ, _+_, _-_, _*_, _/_, _%_, _≤_, _<_}
 use native.Mathlib.Omega.{arith}
 use lib.Dec.{eqb}
 use lib.ListN.{length, length-append, getD}
-use borrow.Author.Tests.{eqb-true}
 use Rattle.codec.specs.Area.{part, splice, repeated, allOnes}
 use Rattle.codec.proofs.Areas.{part-append-right, part-repeated, ones-repeated, length-repeated}
 use Rattle.flash.specs.Chip.{norTree}
 use Rattle.flash.specs.Clears.{OnlyClears}
-use Rattle.flash.proofs.Clearing.{clears-none, clears-trans, clears-ones}
+use Rattle.flash.proofs.Clearing.{clears-trans, clears-ones}
 use Rattle.lift.specs.Limits.{stored}
 use Rattle.bloom.specs.Bloom.{noted}
 use Rattle.bloom.proofs.Section.{length-noted, sectionOf-bytes}
 use Rattle.tree.specs.Writes.{writesOf, allWritten}
 use Rattle.tree.proofs.Clears.{insertion-clears}
 use Rattle.paper_log.specs.Log.{Lift, openSerial, codes, isFull, putLog}
-use Rattle.refinement.specs.Segments as S
-use Rattle.refinement.specs.Image.{History, image}
+use Rattle.refinement.specs.Inner.Segments as S
+use Rattle.refinement.specs.Inner.Image.{History, image}
 use Rattle.refinement.proofs.Good.{GoodLift, Good}
 use Rattle.refinement.proofs.Lengths.{length-codes, length-sections, length-nor, length-bloomBuffer}
 use Rattle.refinement.proofs.PageLengths.{length-area}
 use Rattle.refinement.proofs.ClosePage.{few-buckets}
 use Rattle.refinement.proofs.OneMore as O
 use Rattle.refinement.proofs.Close.{closeHistory}
-use Rattle.refinement.proofs.Put.{putHistory, Takes, nor-is}
-use Rattle.refinement.proofs.Entry.{Enters, planIn, sectionsOf}
-use Rattle.refinement.proofs.Append.{roomHistory, shedHistory, appendHistory, Roomy, roomy, Shed, shed, takes, entry}
+use Rattle.refinement.proofs.Put.{Takes, nor-is}
+use Rattle.refinement.proofs.Entry.{Enters, planIn}
+use Rattle.refinement.proofs.Append.{roomHistory, shedHistory, appendHistory, roomy, Shed, shed, takes, entry}
 
 -- the place of the next section is free
 pub section-free : (tree w : List ℕ) (at : ℕ) → length tree ≡ 4608 → length w ≡ at → at + 128 ≤ 1536

@@ -1,28 +1,26 @@
 -- One lift more: its record in the page buffer and the lift pages, its load in the sections and NOR. Assumes nothing.
-use mathlib.Core.Path.{_≡_, refl, sym, ap, ap₂, subst, _∙_}
-use mathlib.Core.Bool.{Bool, true, false, cond}
+use mathlib.Core.Path.{_≡_, refl, sym, ap, _∙_}
 use mathlib.Core.List.{List, [], _∷_, _++_, map, append-assoc, append-nil}
 use Prim.Native.Nat.{ℕ, zero, suc, _+_, _-_, _*_, _/_, _%_, _≤_, _<_}
 use native.Mathlib.Omega.{arith}
-use lib.ListN.{length, drop, length-append, length-drop, length-map, drop-of-length-le}
+use lib.ListN.{length, drop, length-append, length-drop, drop-of-length-le}
 use lib.Seq.{drop-append-le}
 use Rattle.codec.specs.Area.{part, splice, repeated}
-use Rattle.codec.proofs.Areas.{length-repeated, part-append-left}
+use Rattle.codec.proofs.Areas.{part-append-left, splice-right}
 use Rattle.flash.specs.Chip.{erasedPage}
 use Rattle.lift.specs.Limits.{stored}
 use Rattle.lift.proofs.Records.{length-record}
 use Rattle.bloom.specs.Bloom.{sectionOf, noted, notedAll, emptySection}
 use Rattle.bloom.specs.Pages.{each}
 use Rattle.bloom.proofs.Each.{each-same}
-use Rattle.bloom.proofs.Section.{sectionOf-snoc, length-sectionOf, length-noted}
+use Rattle.bloom.proofs.Section.{sectionOf-snoc}
 use Rattle.segment.proofs.Fields.{front-put}
-use Rattle.tree.proofs.Places.{splice-right}
 use Rattle.search.specs.Answers.{rowBytes}
 use Rattle.search.proofs.Rows.{rows-append}
-use Rattle.paper_log.specs.Log.{Lift, rowOf, codes}
-use Rattle.refinement.specs.Segments.{recordsOf, liftArea, liftPage, pageBuffer, bloomBuffer, wholeSections}
+use Rattle.paper_log.specs.Log.{Lift, rowOf}
+use Rattle.refinement.specs.Inner.Segments.{recordsOf, liftArea, liftPage, pageBuffer, bloomBuffer, wholeSections}
 use Rattle.refinement.proofs.Good.{GoodLift, GoodLifts}
-use Rattle.refinement.proofs.Lengths.{length-records, length-codes, length-sections}
+use Rattle.refinement.proofs.Lengths.{length-records}
 use Rattle.refinement.proofs.ClosePage.{to-end, past-end}
 
 pub map-snoc : {A B : Type 0} (f : A → B) (l : List A) (a : A) → map f (l ++ (a ∷ [])) ≡ map f l ++ (f a ∷ [])

@@ -17,7 +17,8 @@ use Rattle.lift.proofs.Codes.{stored-le}
 use Rattle.bitset.specs.Set.{picked, elem}
 use Rattle.bitset.proofs.Picked.{picked-none}
 use Rattle.tree.specs.Rules.{bucketsOf}
-use Rattle.tree.specs.Search.{within, find}
+use Rattle.tree.specs.Search.{within}
+use Rattle.tree.specs.Inner.Find.{find}
 use Rattle.tree.specs.Sweep.{sweepOn}
 use Rattle.tree.proofs.Built.{buckets-of}
 use Rattle.tree.proofs.Found.{find-elem}
@@ -26,9 +27,9 @@ use Rattle.tree.proofs.Written.{tree-of-nor}
 use Rattle.walk.specs.declared.Closed.{Closed}
 use Rattle.walk.specs.declared.Log.{Log}
 use Rattle.walk.specs.Visit.{timely, timed, matchesOf, rowsAt, closedMatches, closedRows, openMatches, openRows}
-use Rattle.store.specs.Queries.{queryOf}
+use Rattle.questions.specs.Queries.{queryOf}
 use Rattle.paper_log.specs.Log.{Lift, rowOf, codes, wanted, among}
-use Rattle.refinement.specs.Segments.{liftArea, pageBuffer, treeArea, bucketCount, norOf}
+use Rattle.refinement.specs.Inner.Segments.{liftArea, pageBuffer, treeArea, bucketCount, norOf}
 use Rattle.refinement.proofs.Good.{Built}
 use Rattle.refinement.proofs.Lengths.{length-codes, good-loads}
 use Rattle.refinement.proofs.Wanted.{noLift}

@@ -1,19 +1,19 @@
 -- Where the pages of a slot come from: the open serial's slot is no retained closed one's, and what a close changes. Assumes nothing.
-use mathlib.Core.Path.{_≡_, refl, sym, ap, subst, _∙_}
+use mathlib.Core.Path.{_≡_, refl, ap, _∙_}
 use mathlib.Core.Bool.{Bool, true, false, cond}
 use mathlib.Core.List.{List, [], _∷_, _++_, map}
-use Prim.Native.Nat.{ℕ, zero, suc, _+_, _-_, _*_, _/_, _≤_, _<_}
+use Prim.Native.Nat.{ℕ, suc, _+_, _-_, _≤_, _<_}
 use native.Mathlib.Omega.{arith}
-use lib.Dec.{eqb, ltb}
+use lib.Dec.{eqb}
 use lib.ListN.{length}
-use borrow.Author.Tests.{eqb-true, eqb-false, eq-eqb, ne-eqb, le-ltb}
+use borrow.Author.Tests.{eqb-true, eq-eqb, ne-eqb, le-ltb}
 use Rattle.flash.specs.Chip.{slotOf, erasedPage}
 use Rattle.skiplist.specs.declared.Pointer.{Pointer}
 use Rattle.form.specs.declared.Form.{Form}
 use Rattle.skiplist.specs.Skip.{pointing, levelOf, headsAfter}
 use Rattle.paper_log.specs.Log.{Lift}
-use Rattle.refinement.specs.Segments.{startTime, closedPage, openPage, headsFrom}
-use Rattle.refinement.specs.Image.{pageFrom}
+use Rattle.refinement.specs.Inner.Segments.{startTime, closedPage, openPage, headsFrom}
+use Rattle.refinement.specs.Inner.Image.{pageFrom}
 use Rattle.flash.proofs.Slots.{slots-differ}
 
 -- the heads that the serial behind these has

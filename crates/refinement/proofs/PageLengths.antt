@@ -1,33 +1,31 @@
 -- Every page of an image has 512 bytes, and the chip's page p of slot s is the image's. Assumes nothing.
-use mathlib.Core.Path.{_≡_, refl, sym, ap, ap₂, _∙_}
+use mathlib.Core.Path.{_≡_, refl, ap, ap₂, _∙_}
 use mathlib.Core.Bool.{Bool, true, false, cond}
-use mathlib.Core.List.{List, [], _∷_, _++_, map}
-use Prim.Native.Nat.{ℕ, zero, suc, _+_, _-_, _*_, _/_, _%_, _≤_, _<_}
+use mathlib.Core.List.{List, [], _∷_}
+use Prim.Native.Nat.{ℕ, zero, suc, _+_, _-_, _*_, _/_, _%_, _<_}
 use native.Mathlib.Omega.{arith}
 use lib.Dec.{eqb, ltb}
-use lib.ListN.{length, getD}
-use borrow.Author.Tests.{ltb-true, ltb-false, eqb-true, eqb-false}
+use lib.ListN.{length}
+use borrow.Author.Tests.{ltb-true, ltb-false}
 use Rattle.form.specs.declared.Form.{Form}
-use Rattle.codec.specs.Area.{part, repeated}
+use Rattle.codec.specs.Area.{part}
 use Rattle.codec.proofs.Areas.{length-repeated, length-part}
 use Rattle.flash.specs.Chip.{slotOf, pageOf, erasedPage}
-use Rattle.bloom.specs.Pages.{each, sectionCount, segmentSections, bloomPage}
+use Rattle.bloom.specs.Pages.{each, fiveSections, segmentSections, bloomPage}
 use Rattle.bloom.proofs.Each.{length-each, getD-each}
 use Rattle.bloom.proofs.Fragments as F
 use Rattle.bloom.proofs.Pages as P
 use Rattle.skiplist.specs.declared.Pointer.{Pointer}
-use Rattle.skiplist.specs.Skip.{pointing, levelOf, headsAfter}
+use Rattle.skiplist.specs.Skip.{pointing, levelOf, headsAfter, noHeads}
 use Rattle.skiplist.proofs.Nodes.{length-heads}
-use Rattle.segment.specs.Header.{headerPage}
 use Rattle.segment.proofs.HeaderBytes.{level-most, length-header}
 use Rattle.tree.specs.Rules.{bucketsOf}
 use Rattle.tree.proofs.Written.{length-tree}
-use Rattle.search.specs.Answers.{rowBytes}
 use Rattle.search.proofs.Rows.{Wide, length-rows, row-at}
 use Rattle.paper_log.specs.Log.{Lift, codes}
-use Rattle.refinement.specs.Segments.{liftPage, treeArea, closingOf, closedPage, openPage, headsFrom, noHeads, startTime}
-use Rattle.refinement.specs.Image.{History, oldestHeads, pageFrom, pageImage, nandImage}
-use Rattle.refinement.proofs.Good.{GoodLifts, Built, AllBuilt, Segments, none, more, Good}
+use Rattle.refinement.specs.Inner.Segments.{liftPage, treeArea, closingOf, closedPage, openPage, headsFrom, startTime}
+use Rattle.refinement.specs.Inner.Image.{History, oldestHeads, pageFrom, pageImage, nandImage}
+use Rattle.refinement.proofs.Good.{Built, AllBuilt, Segments, none, more, Good}
 use Rattle.refinement.proofs.Lengths.{length-liftPage, length-codes}
 
 pub length-erased : length erasedPage ≡ 512
@@ -69,7 +67,7 @@ module _ (ls : List Lift) (b : Built ls) (some-lift : 0 < length ls) where
       (λ t. length-part (treeArea ls) ((p - 20) * 512) 512 (omega (arith, ltb-true p 29 t, ltb-false p 20 f20, length-area ls))) (λ f29.
       page-by (eqb p 29) _ _ (λ t. length-bloom 0) (λ f.
       page-by (eqb p 30) _ _
-      (λ t. page-by (ltb 256 (length ls)) _ _ (λ t. length-bloom 1) (λ f. length-erased))
+      (λ t. page-by (fiveSections (length ls)) _ _ (λ t. length-bloom 1) (λ f. length-erased))
       (λ f. length-header (closingOf v n ls heads) four))))
 
 pub length-openPage : (ls : List Lift) (p : ℕ) → Built ls → length (openPage ls p) ≡ 512

@@ -2,25 +2,25 @@
 use mathlib.Core.Path.{_≡_, refl, sym, ap, ap₂, subst, _∙_}
 use mathlib.Core.Logic.{_⊎_, inl, inr, ⊎-elim}
 use mathlib.Core.Bool.{Bool, true, false, cond}
-use mathlib.Core.List.{List, [], _∷_, _++_}
-use Prim.Native.Nat.{ℕ, zero, suc, _+_, _-_, _*_, _/_, _≤_, _<_}
+use mathlib.Core.List.{List, [], _∷_}
+use Prim.Native.Nat.{ℕ, suc, _+_, _-_, _/_, _≤_, _<_}
 use native.Mathlib.Decide.{ℕ-discrete, decLt}
 use native.Mathlib.Omega.{arith}
-use lib.Dec.{eqb, leb, ltb}
+use lib.Dec.{leb}
 use lib.ListN.{length}
 use borrow.Author.Tests.{lt-ltb, le-ltb, leb-true}
 use Rattle.form.specs.declared.Form.{Form}
 use Rattle.codec.specs.Area.{allOnes}
 use Rattle.codec.proofs.Areas.{ones-repeated}
-use Rattle.flash.specs.Chip.{slotOf, pageOf, pageErased, erasedPage}
+use Rattle.flash.specs.Chip.{slotOf, pageOf, erasedPage}
 use Rattle.skiplist.specs.declared.Pointer.{Pointer}
-use Rattle.paper_log.specs.Log.{Lift, Log, openSerial, closeLog, dropLog, putLog, isFull}
-use Rattle.refinement.specs.Segments as S
-use Rattle.refinement.specs.Image.{History, oldestHeads, pageFrom, pageImage, nandImage}
-use Rattle.refinement.specs.Rules.{PageKept, PagesKept}
+use Rattle.paper_log.specs.Log.{Lift, openSerial, closeLog, dropLog, putLog, isFull}
+use Rattle.refinement.specs.Inner.Segments as S
+use Rattle.refinement.specs.Inner.Image.{History, oldestHeads, pageImage, nandImage}
+use Rattle.refinement.specs.Rules.{PagesKept}
 use Rattle.refinement.proofs.Good.{GoodLift, Good}
 use Rattle.refinement.proofs.PageLengths.{page-of-nand}
-use Rattle.refinement.proofs.PageFrom.{page-open, page-newest, page-elsewhere, page-current}
+use Rattle.refinement.proofs.PageFrom.{page-open, page-newest, page-elsewhere}
 use Rattle.refinement.proofs.Close.{closeHistory, good-close}
 use Rattle.refinement.proofs.Drop.{history, dropHistory, good-drop-some, heads-left, first-skips}
 use Rattle.refinement.proofs.Put.{putHistory, Takes, good-put, open-below, same-page}

@@ -10,6 +10,7 @@ use lib.IntN.{ℤ, pos, negsuc}
 use lib.ListN.{length, getD}
 use lib.Signed.{leZ, ltZ}
 use borrow.Author.Tests.{ltb-false, le-ltb, le-leb, leb-true}
+use Rattle.codec.proofs.Truth.{and-parts}
 use Rattle.flash.specs.Chip.{pagesOf}
 use Rattle.lift.specs.Limits.{loadOk, stored}
 use Rattle.lift.proofs.Codes.{stored-le}
@@ -19,13 +20,12 @@ use Rattle.bloom.specs.Bloom.{mayHold}
 use Rattle.bloom.specs.Pages.{sectionCount, segmentSections, bloomPage, sectionsIn}
 use Rattle.bloom.proofs.Pages.{bloom-never-misses-in-pages}
 use Rattle.tree.specs.Search.{within}
-use Rattle.tree.proofs.Clears.{both}
 use Rattle.tree.proofs.Search.{within-sides}
 use Rattle.segment.specs.declared.Header.{Header}
 use Rattle.walk.specs.Visit.{timely, isPassed}
-use Rattle.store.specs.Queries.{queryOf}
+use Rattle.questions.specs.Queries.{queryOf}
 use Rattle.paper_log.specs.Log.{Lift, codes, wanted, among}
-use Rattle.refinement.specs.Segments as S
+use Rattle.refinement.specs.Inner.Segments as S
 use Rattle.refinement.proofs.Good.{GoodLifts, Built}
 use Rattle.refinement.proofs.Lengths.{length-codes}
 use Rattle.refinement.proofs.InBounds.{low-ok, high-ok, low-most, high-least, le-self}
@@ -104,7 +104,7 @@ module _ (t1 t2 : ℕ) (k1 k2 : ℤ) (ok1 : loadOk k1 ≡ true) (ok2 : loadOk k2
   in-range : (p : ℕ) → p < length ls → wanted t1 t2 k1 k2 (getD ls p noLift) ≡ true → (stored k1 ≤ load p) × (load p ≤ stored k2)
   in-range p h w =
       within-sides (stored k1) (stored k2) (load p)
-      (both (within (stored k1) (stored k2) (load p)) (timely (queryOf t1 t2 k1 k2) (getD ls p noLift .time))
+      (and-parts (within (stored k1) (stored k2) (load p)) (timely (queryOf t1 t2 k1 k2) (getD ls p noLift .time))
       (wanted-is t1 t2 k1 k2 ok1 ok2 (getD ls p noLift) (good-at ls p (b .lifts) h .load) ∙ w) .0)
 
   held : (p : ℕ) → p < length ls → mayHold (sectionsIn (pagesOf nand slot 29 2) (sectionCount (length ls))) (load p) ≡ true

@@ -19,8 +19,8 @@ use Rattle.skiplist.proofs.Nodes.{length-node, node-below, node-above, heads-be
 use Rattle.segment.proofs.HeaderBytes.{level-most}
 use Rattle.store.specs.World.{liveTime, leastBy}
 use Rattle.paper_log.specs.Log.{Lift}
-use Rattle.refinement.specs.Segments as S
-use Rattle.refinement.specs.Image.{History, oldestHeads, firstStart, liveOf}
+use Rattle.refinement.specs.Inner.Segments as S
+use Rattle.refinement.specs.Inner.Image.{History, oldestHeads, firstStart, liveOf}
 use Rattle.refinement.proofs.Good as G
 use Rattle.refinement.proofs.Good.{Segments, Good}
 use Rattle.refinement.proofs.InBounds.{segments-up, start-below}

@@ -1,41 +1,38 @@
 -- A lift put into a history's world gives the world of the history with it, wherever its entry's writes give the tree with its load.
 -- Assumes nothing.
-use mathlib.Core.Path.{_≡_, refl, sym, ap, ap₂, subst, _∙_}
-use mathlib.Core.Bool.{Bool, true, false, cond, _&&_}
+use mathlib.Core.Path.{_≡_, refl, sym, ap, _∙_}
+use mathlib.Core.Bool.{Bool, true, false, cond}
 use mathlib.Core.Option.{some}
-use mathlib.Core.List.{List, [], _∷_, _++_, map, append-assoc}
-use Prim.Native.Nat.{ℕ, zero, suc, _+_, _-_, _*_, _/_, _%_, _≤_, _<_}
+use mathlib.Core.List.{List, [], _∷_, _++_, append-assoc}
+use Prim.Native.Nat.{ℕ, _+_, _-_, _*_, _/_, _%_, _≤_, _<_}
 use native.Mathlib.Decide.{ℕ-discrete}
 use native.Mathlib.Nat.{le-refl}
 use native.Mathlib.Omega.{arith}
-use lib.Dec.{eqb, leb, ltb}
-use lib.IntN.{ℤ}
+use lib.Dec.{eqb}
 use lib.ListN.{length, getD, length-append, length-map}
-use borrow.Author.Tests.{eqb-true, eqb-false, eq-eqb, ne-eqb, lt-ltb, le-ltb}
+use borrow.Author.Tests.{eqb-true, eqb-false, lt-ltb, le-ltb}
 use Rattle.form.specs.declared.Form.{Form}
 use Rattle.form.specs.declared.Form.the-variants.{Old, New}
 use Rattle.form.specs.Forms.{step}
-use Rattle.codec.specs.Area.{part, splice, repeated}
-use Rattle.codec.proofs.Areas.{length-repeated}
+use Rattle.codec.specs.Area.{splice, repeated}
+use Rattle.codec.proofs.Areas.{splice-right}
 use Rattle.flash.specs.Chip.{slotOf, pageOf, programmed, erasedPage}
 use Rattle.flash.proofs.Pages.{chips-equal, length-programmed, page-programmed, page-elsewhere}
 use Rattle.bounds.specs.Lifts.{pushed, lowWith, highWith}
-use Rattle.lift.specs.Limits.{stored, loadOk}
+use Rattle.lift.specs.Limits.{stored}
 use Rattle.bloom.specs.Bloom.{noted, emptySection}
 use Rattle.bloom.proofs.Section.{length-noted}
 use Rattle.segment.proofs.Fields.{front-put}
-use Rattle.tree.specs.Rules.{Bucket, treeOf, bucketsOf}
+use Rattle.tree.specs.Rules.{Bucket, treeOf}
 use Rattle.tree.specs.Plan.{Plan}
 use Rattle.tree.specs.Writes.{writesOf, allWritten, bucketsAfter}
-use Rattle.tree.proofs.Places.{splice-right}
-use Rattle.store.specs.declared.State.{State}
-use Rattle.store.specs.World.{World, liveTime, liveWith, stateWith, putWorld}
+use Rattle.store.specs.World.{liveTime, liveWith, nandWith, norWith, stateGiven, stateWith, putWorld}
 use Rattle.skiplist.specs.Skip.{none}
-use Rattle.paper_log.specs.Log.{Lift, Log, openSerial, codes, rowOf, putLog}
-use Rattle.refinement.specs.Segments as S
-use Rattle.refinement.specs.Image.{History, oldestHeads, firstStart, pageFrom, pageImage, nandImage, stateImage, image}
+use Rattle.paper_log.specs.Log.{Lift, openSerial, codes, rowOf, putLog}
+use Rattle.refinement.specs.Inner.Segments as S
+use Rattle.refinement.specs.Inner.Image.{History, oldestHeads, firstStart, pageImage, nandImage, stateImage, image}
 use Rattle.refinement.proofs.Good as G
-use Rattle.refinement.proofs.Good.{GoodLift, GoodLifts, Built, Times, Good}
+use Rattle.refinement.proofs.Good.{GoodLift, Times, Good}
 use Rattle.flash.proofs.Slots.{slot-below}
 use Rattle.refinement.proofs.Lengths.{length-liftPage, length-codes, length-sections, length-bloomBuffer}
 use Rattle.refinement.proofs.PageLengths.{length-nand, page-of-nand, length-area}
@@ -44,7 +41,6 @@ use Rattle.refinement.proofs.Dead.{dead-later, least-up}
 use Rattle.refinement.proofs.PutState.{last-loads, live-with, start-with, low-with, high-with}
 use Rattle.refinement.proofs.PageFrom.{page-open, page-current}
 use Rattle.refinement.proofs.ClosePage.{lt-cases}
-use Rattle.refinement.proofs.InBounds.{times-up}
 
 -- the history with a lift more
 abbrev pub putHistory : History → Lift → History
@@ -303,13 +299,13 @@ module _ (h : History) (l : Lift) (g : Good h) (t : Takes h l) where
   module _ (p : Plan) (written : allWritten (S.norOf ls) (writesOf p (S.bucketCount ls) code (length ls)) ≡ S.treeArea more ++ sections)
       (buckets : bucketsAfter p (S.bucketCount ls) ≡ S.bucketCount more) where
     state-is : stateWith (h .log .form) (stateImage h) (l .time) (l .load) (l .note) p ≡ stateImage (putHistory h l)
-    unfolding stateWith stateImage putLog
+    unfolding stateWith stateGiven stateImage putLog
     state-is =
         let n = sym (O.length-snoc ls l) in
         rw (n, buckets, loads-is, buffer-is, bloom-is, start-with ls l, low-is, high-is)
 
     pub put-world : putWorld (image h) slots (l .time) (l .load) (l .note) p ≡ image (putHistory h l)
-    unfolding putWorld liveWith image stateImage putLog
+    unfolding putWorld nandWith norWith liveWith image stateImage putLog
     put-world = rw (
       nand-is,
       nor-is _ written,

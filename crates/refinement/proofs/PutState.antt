@@ -1,21 +1,21 @@
 -- The state with one lift more is the state of the history with it. Assumes nothing.
-use mathlib.Core.Path.{_≡_, refl, sym, ap, ap₂, _∙_}
+use mathlib.Core.Path.{_≡_, refl, sym, ap, _∙_}
 use mathlib.Core.Bool.{Bool, true, false, cond, _&&_}
-use mathlib.Core.List.{List, [], _∷_, _++_, map, append-nil}
-use Prim.Native.Nat.{ℕ, zero, suc, _+_, _-_, _*_, _/_, _%_, _≤_, _<_}
+use mathlib.Core.List.{List, [], _∷_, _++_, append-nil}
+use Prim.Native.Nat.{ℕ, suc, _+_, _-_, _≤_, _<_}
 use native.Mathlib.Decide.{decLt}
 use native.Mathlib.Omega.{arith}
-use lib.Dec.{eqb, leb, ltb}
+use lib.Dec.{eqb, ltb}
 use lib.IntN.{ℤ, pos}
-use lib.ListN.{length, drop, set, replicate, length-append, length-map}
+use lib.ListN.{length, drop, set, replicate}
 use lib.Seq.{drop-drop, drop-append-le, set-at, append-snoc}
 use lib.Signed.{ltZ}
 use borrow.Author.Tests.{lt-ltb, le-ltb, eq-eqb, ne-eqb}
 use Rattle.bounds.specs.Lifts.{pushed, shifted, lowWith, highWith}
 use Rattle.paper_log.specs.Log.{Lift}
-use Rattle.refinement.specs.Segments as S
-use Rattle.refinement.specs.Image.{firstStart}
-use Rattle.refinement.proofs.OneMore.{map-snoc, length-snoc}
+use Rattle.refinement.specs.Inner.Segments as S
+use Rattle.refinement.specs.Inner.Image.{firstStart}
+use Rattle.refinement.proofs.OneMore.{length-snoc}
 
 -- the last 13 loads
 pub last-loads : (xs : List ℤ) (x : ℤ) → pushed (S.lastThirteen xs) (length xs) x ≡ S.lastThirteen (xs ++ (x ∷ []))

@@ -1,22 +1,17 @@
 -- The world after a list of calls is that of a good history, and its log is the paper log's. Assumes nothing.
-use mathlib.Core.Path.{_≡_, refl, sym, ap, ap₂, subst, _∙_}
+use mathlib.Core.Path.{_≡_, refl, sym, ap, _∙_}
 use mathlib.Core.Bool.{Bool, true, false, cond}
-use mathlib.Core.List.{List, [], _∷_, _++_, map}
-use Prim.Native.Nat.{ℕ, zero, suc, _*_, _/_, _≤_, _<_}
-use native.Mathlib.Omega.{arith}
+use mathlib.Core.List.{List, [], _∷_, map}
+use Prim.Native.Nat.{_/_}
 use lib.Dec.{eqb}
-use lib.IntN.{ℤ}
-use lib.ListN.{length, getD}
+use lib.ListN.{length}
 use Rattle.store.specs.World.{World}
-use Rattle.store.specs.Calls.{Outcome, appendOutcome, closeOutcome, dropOutcome, formatOutcome}
-use Rattle.store.specs.Queries.{searchOutcome}
-use Rattle.paper_log.specs.Log.{Lift, Log, begun}
+use Rattle.store.specs.Calls.{Outcome}
+use Rattle.paper_log.specs.Log.{Log}
 use Rattle.paper_log.specs.Calls as Paper
-use Rattle.refinement.specs.Image.{History, image}
-use Rattle.refinement.specs.Run as Run
-use Rattle.refinement.specs.Run.{Request, append, close, drop, search, callOf, Reply, plain, searched, reply, worldAfter, replies, runAfter, expected, expectedAll, Typed, AllTyped}
+use Rattle.refinement.specs.Inner.Image.{History, image}
+use Rattle.refinement.specs.Run.{Request, append, close, drop, search, callOf, worldAfter, runAfter, Typed, AllTyped}
 use Rattle.refinement.proofs.Good.{Good}
-use Rattle.refinement.proofs.Begun.{begunHistory, good-begun, format-world}
 use Rattle.refinement.proofs.Steps as Steps
 
 -- ---- one call

@@ -1,24 +1,21 @@
 -- Demand 2: a retained closed segment reads back as the lifts that went in, in order. Assumes nothing.
-use mathlib.Core.Path.{_≡_, refl, sym, ap, ap₂, subst, _∙_}
-use mathlib.Core.Bool.{true}
+use mathlib.Core.Path.{_≡_, refl, sym, ap, ap₂, _∙_}
 use mathlib.Core.List.{List, [], _∷_, _++_, append-assoc}
-use Prim.Native.Nat.{ℕ, zero, suc, _+_, _-_, _*_, _≤_, _<_}
+use Prim.Native.Nat.{ℕ, suc, _+_, _-_, _*_, _≤_, _<_}
 use native.Mathlib.Omega.{arith}
 use lib.IntN.{ℤ}
 use lib.ListN.{length, getD, length-append}
 use borrow.Author.Tests.{lt-ltb}
 use Rattle.codec.specs.Number.{numberAt}
 use Rattle.flash.specs.Chip.{slotOf, pageOf, pagesOf}
-use Rattle.lift.specs.Limits.{loadOf, stored}
-use Rattle.lift.specs.Record.{timeAt, codeAt, noteAt}
+use Rattle.lift.specs.Limits.{loadOf}
 use Rattle.lift.proofs.Codes.{within-limits}
 use Rattle.bloom.specs.Pages.{each}
 use Rattle.segment.specs.declared.Header.{Header}
 use Rattle.segment.specs.Header.{headerIn}
-use Rattle.store.specs.World.{World}
-use Rattle.paper_log.specs.Log.{Lift, Log, openSerial}
-use Rattle.refinement.specs.Segments as S
-use Rattle.refinement.specs.Image.{History, nandImage, stateImage, image}
+use Rattle.paper_log.specs.Log.{Lift, openSerial}
+use Rattle.refinement.specs.Inner.Segments as S
+use Rattle.refinement.specs.Inner.Image.{History, nandImage, stateImage, image}
 use Rattle.refinement.specs.ReadBack.{liftIn, segmentIn, segmentsIn}
 use Rattle.refinement.proofs.Good.{GoodLifts, Good}
 use Rattle.refinement.proofs.Lengths.{length-liftArea}

@@ -18,8 +18,8 @@ use Rattle.lift.proofs.Records.{Holds, record-read}
 use Rattle.segment.proofs.ReadBack.{part-in-page, page-in-pages}
 use Rattle.search.proofs.Rows.{row-at}
 use Rattle.paper_log.specs.Log.{Lift, openSerial, rowOf}
-use Rattle.refinement.specs.Segments.{recordsOf, liftArea, liftPage, pageBuffer, openPage}
-use Rattle.refinement.specs.Image.{History, oldestHeads, nandImage}
+use Rattle.refinement.specs.Inner.Segments.{recordsOf, liftArea, liftPage, pageBuffer, openPage}
+use Rattle.refinement.specs.Inner.Image.{History, oldestHeads, nandImage}
 use Rattle.refinement.proofs.Good.{GoodLift, GoodLifts, Good}
 use Rattle.refinement.proofs.Lengths.{wide-records, length-records, length-liftArea, length-pageBuffer}
 use Rattle.refinement.proofs.PageLengths.{length-nand, page-of-nand}

@@ -1,34 +1,33 @@
 -- A retained closed segment, wherever it stands among the others: its pages are in its serial's slot, and its header reads back without damage.
 -- Assumes nothing.
-use mathlib.Core.Path.{_≡_, refl, sym, ap, ap₂, subst, _∙_}
-use mathlib.Core.Bool.{Bool, true, false, cond, _&&_}
+use mathlib.Core.Path.{_≡_, refl, sym, ap, subst, _∙_}
+use mathlib.Core.Bool.{Bool, true, false, _&&_}
 use mathlib.Core.List.{List, [], _∷_, _++_, map}
-use Prim.Native.Nat.{ℕ, zero, suc, _+_, _-_, _*_, _/_, _%_, _^_, _≤_, _<_}
+use Prim.Native.Nat.{ℕ, zero, suc, _+_, _-_, _^_, _≤_, _<_}
 use native.Mathlib.Decide.{decLt}
 use native.Mathlib.Omega.{arith}
-use lib.Dec.{eqb, leb, ltb}
+use lib.Dec.{ltb}
 use lib.IntN.{ℤ}
 use lib.ListN.{length, getD, drop, replicate, length-append, length-map}
-use lib.Signed.{leZ}
 use borrow.Author.Tests.{le-leb, lt-ltb, eq-eqb, ne-eqb, leb-true}
+use Rattle.codec.proofs.Truth.{and-both, or-second}
 use Rattle.form.specs.declared.Form.{Form}
 use Rattle.form.specs.declared.Form.the-variants.{Old, New}
 use Rattle.form.specs.Forms.{step, serialWidth, serialIn}
 use Rattle.flash.specs.Chip.{slotOf, pageOf}
-use Rattle.lift.specs.Limits.{timeOk, loadOk, stored}
+use Rattle.lift.specs.Limits.{stored}
 use Rattle.lift.proofs.Codes.{within-limits, stored-le}
 use Rattle.skiplist.specs.declared.Pointer.{Pointer}
-use Rattle.skiplist.specs.Skip.{pointing, none, isNone, inSlots, levelOf, headsAfter}
+use Rattle.skiplist.specs.Skip.{pointing, none, isNone, levelOf, headsAfter, noHeads}
 use Rattle.skiplist.proofs.Nodes.{heads-below, heads-above}
 use Rattle.segment.proofs.HeaderBytes.{level-most}
-use Rattle.segment.specs.declared.Header.{Header}
-use Rattle.segment.specs.Header.{pointerGood, pointersGood, headerIn, headerPage}
+use Rattle.segment.specs.Header.{pointerGood, pointersGood, headerIn}
 use Rattle.segment.proofs.HeaderRead.{headerOf}
 use Rattle.segment.proofs.HeaderSound.{Sound, header-decoded}
 use Rattle.tree.proofs.Built.{buckets-of, counted}
-use Rattle.paper_log.specs.Log.{Lift, Log, openSerial, codes}
-use Rattle.refinement.specs.Segments as S
-use Rattle.refinement.specs.Image.{History, oldestHeads, pageFrom, pageImage, nandImage}
+use Rattle.paper_log.specs.Log.{Lift, codes}
+use Rattle.refinement.specs.Inner.Segments as S
+use Rattle.refinement.specs.Inner.Image.{History, oldestHeads, pageFrom, nandImage}
 use Rattle.refinement.proofs.Good as G
 use Rattle.refinement.proofs.Good.{GoodLifts, Built, AllBuilt, Times, Segments, Limited, Good}
 use Rattle.refinement.proofs.Lengths.{length-codes, good-loads}
@@ -37,7 +36,7 @@ use Rattle.refinement.proofs.PageLengths.{four-after, four-heads, four-
 use Rattle.refinement.proofs.ClosePage.{few-buckets}
 use Rattle.refinement.proofs.PageFrom.{headsAt}
 use Rattle.refinement.proofs.Close.{end-time}
-use Rattle.refinement.proofs.InBounds.{both, or-right, times-up, start-below, segments-up, low-ok, high-ok, low-most, high-least, le-self}
+use Rattle.refinement.proofs.InBounds.{times-up, start-below, segments-up, low-ok, high-ok, low-most, high-least, le-self}
 
 -- ---- its pages
 
@@ -64,7 +63,7 @@ good-run : (slots level : ℕ) (p : Pointer) (rest : List Pointer) → pointerGo
     → pointersGood slots (replicate level p ++ rest) ≡ true
 unfolding pointersGood
 good-run slots zero p rest e f = f
-good-run slots (suc n) p rest e f = both _ _ e (good-run slots n p rest e f)
+good-run slots (suc n) p rest e f = and-both _ _ e (good-run slots n p rest e f)
 
 good-later : (slots n : ℕ) (ps : List Pointer) → pointersGood slots ps ≡ true → pointersGood slots (drop n ps) ≡ true
 unfolding pointersGood
@@ -83,11 +82,11 @@ good-heads v slots n [] heads h l e = e
 good-heads v slots n (t ∷ ts) heads h l e =
     good-heads v slots (suc n) ts _ h (l .1)
     (good-run slots (levelOf n) (pointing v (slotOf n slots) n t) (drop (levelOf n) heads)
-    (both _ _ (le-leb t 999999999999999 (l .0))
-    (or-right (isNone (pointing v (slotOf n slots) n t)) (ltb (slotOf n slots) slots) (lt-ltb (slotOf n slots) slots (slot-below slots n h))))
+    (and-both _ _ (le-leb t 999999999999999 (l .0))
+    (or-second (isNone (pointing v (slotOf n slots) n t)) (ltb (slotOf n slots) slots) (lt-ltb (slotOf n slots) slots (slot-below slots n h))))
     (good-later slots (levelOf n) heads e))
 
-pub good-none : (slots : ℕ) → pointersGood slots S.noHeads ≡ true
+pub good-none : (slots : ℕ) → pointersGood slots noHeads ≡ true
 unfolding pointersGood pointerGood
 good-none slots = refl
 
@@ -96,10 +95,10 @@ serial-fits : (v : Form) (n : ℕ) → n < 2 ^ 32 → serialIn v n < 256 ^ seria
 serial-fits Old n l = omega arith
 serial-fits New n l = l
 
-none-fits : (v : Form) (k : ℕ) → getD S.noHeads k none .serial < 256 ^ serialWidth v
+none-fits : (v : Form) (k : ℕ) → getD noHeads k none .serial < 256 ^ serialWidth v
 none-fits v k = rw (none-there k) (zero-fits v)
   where
-    none-there : (k : ℕ) → getD S.noHeads k none ≡ none
+    none-there : (k : ℕ) → getD noHeads k none ≡ none
     none-there zero = refl
     none-there (suc zero) = refl
     none-there (suc (suc zero)) = refl
@@ -217,11 +216,11 @@ module _ (h : History) (g : Good h) (before : List (List Lift)) (ls : List Lift)
         heads-four = four-of;
         heads-good = good-heads (h .log .form) (h .log .slots) (h .log .oldest) (map S.startTime before) (oldestHeads h) slots-some
             (limited-closed (f .earlier) (omega (arith, times-up (f .own), segments-up (f .later), times-up (g .current), g .end)))
-            (good-heads (h .log .form) (h .log .slots) 1 (h .gone) S.noHeads slots-some
+            (good-heads (h .log .form) (h .log .slots) 1 (h .gone) noHeads slots-some
             (g .limited) (good-none (h .log .slots)));
         serials-fit = λ k q. serials-from (h .log .form) (h .log .slots) (h .log .oldest) (map S.startTime before) (oldestHeads h) (four-oldest h g)
             (omega (arith, g .last, count-closed, length-map before S.startTime))
-            (serials-from (h .log .form) (h .log .slots) 1 (h .gone) S.noHeads refl (omega (arith, g .last, g .serial)) (none-fits (h .log .form))) k;
+            (serials-from (h .log .form) (h .log .slots) 1 (h .gone) noHeads refl (omega (arith, g .last, g .serial)) (none-fits (h .log .form))) k;
       }
 
   pub retained-header : (bound : ℕ) → serialOf < bound

@@ -10,9 +10,9 @@ use native.Mathlib.Omega.{arith}
 use lib.Dec.{eqb}
 use lib.IntN.{ℤ}
 use lib.ListN.{length, getD, length-append}
+use Rattle.codec.proofs.Truth.{and-parts}
 use Rattle.lift.specs.Limits.{loadOk}
 use Rattle.skiplist.specs.Skip as Skip
-use Rattle.tree.proofs.Clears.{both}
 use Rattle.walk.specs.declared.Cursor.{Cursor}
 use Rattle.walk.specs.declared.Log.{Log}
 use Rattle.walk.specs.declared.Query.{Query}
@@ -21,10 +21,10 @@ use Rattle.walk.specs.Seek.{isLast, skipWalk, reachedBy, startOf}
 use Rattle.walk.specs.Visit.{advanceOf}
 use Rattle.search.specs.Found.{rowsFrom, closedFound, foundRows}
 use Rattle.store.specs.World.{livenessOf}
-use Rattle.store.specs.Queries.{logOf, queryOf}
+use Rattle.questions.specs.Queries.{logOf, queryOf}
 use Rattle.paper_log.specs.Log.{Lift, openSerial, rowOf, among, joined, found}
-use Rattle.refinement.specs.Segments as S
-use Rattle.refinement.specs.Image.{History, nandImage, liveOf, stateImage, image}
+use Rattle.refinement.specs.Inner.Segments as S
+use Rattle.refinement.specs.Inner.Image.{History, nandImage, liveOf, stateImage, image}
 use Rattle.refinement.proofs.Good.{Good}
 use Rattle.refinement.proofs.InBounds.{start-below}
 use Rattle.refinement.proofs.Wanted.{map-append, joined-append, among-append, early-all}
@@ -72,7 +72,7 @@ module _ (h : History) (g : Good h) (t1 t2 : ℕ) (k1 k2 : ℤ) (ok1 : loadOk k1
   -- then all closed ones are earlier
   all-early : (not (eqb (length (h .log .current)) 0) && isLast (h .log .form) (S.startTime (h .log .current)) t1) ≡ true → closedLifts ≡ []
   all-early e =
-      let b = both (not (eqb (length (h .log .current)) 0)) (isLast (h .log .form) (S.startTime (h .log .current)) t1) e in
+      let b = and-parts (not (eqb (length (h .log .current)) 0)) (isLast (h .log .form) (S.startTime (h .log .current)) t1) e in
       early-all t1 t2 k1 k2 (g .closed)
       (omega (
         arith,

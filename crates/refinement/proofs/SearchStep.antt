@@ -3,7 +3,7 @@
 use mathlib.Core.Path.{_≡_, refl, sym, ap, _∙_}
 use mathlib.Core.Bool.{Bool, true, false, cond, not, _&&_, _||_}
 use mathlib.Core.Option.{some}
-use mathlib.Core.List.{List, [], map}
+use mathlib.Core.List.{List, map}
 use Prim.Native.Nat.{ℕ, _/_}
 use lib.Dec.{eqb, ltb}
 use lib.IntN.{ℤ}
@@ -11,18 +11,17 @@ use lib.ListN.{length, length-map}
 use lib.Signed.{ltZ}
 use borrow.Author.Tests.{eqb-true}
 use Rattle.codec.specs.Area.{splice}
+use Rattle.codec.proofs.Truth.{and-parts}
 use Rattle.bounds.specs.Grounds.{queryGround}
 use Rattle.lift.specs.Limits.{timeOk, loadOk}
-use Rattle.tree.proofs.Clears.{both}
 use Rattle.search.specs.Answers.{searchAnswer, rowBytes}
 use Rattle.search.specs.Found.{foundRows}
 use Rattle.store.specs.World.{livenessOf}
-use Rattle.store.specs.Queries.{logOf, queryOf, searchGround, searchOutcome}
+use Rattle.questions.specs.Queries.{logOf, queryOf, searchGround, searchOutcome}
 use Rattle.paper_log.specs.Log.{found, rowOf}
 use Rattle.paper_log.specs.Calls as Paper
-use Rattle.refinement.specs.Image.{History, image}
-use Rattle.refinement.specs.Run as Run
-use Rattle.refinement.specs.Run.{Reply, searched, callOf}
+use Rattle.refinement.specs.Inner.Image.{History, image}
+use Rattle.refinement.specs.Run.{Reply, searched}
 use Rattle.refinement.proofs.Good.{Good}
 use Rattle.refinement.proofs.Grounds.{state-passes}
 use Rattle.refinement.proofs.Steps.{first-zero, passed}
@@ -62,7 +61,7 @@ module _ (h : History) (g : Good h) (k t1 t2 : ℕ) (k1 k2 : ℤ) where
       let a = first-zero 0 (not (eqb k (h .log .slots))) _ e in
       let b = first-zero 3 (not (timeOk t1 && timeOk t2)) _ (a .1) in
       let c = first-zero 4 (not (loadOk k1 && loadOk k2)) _ (b .1) in
-      let ok = both (loadOk k1) (loadOk k2) (passed _ (c .0)) in
+      let ok = and-parts (loadOk k1) (loadOk k2) (passed _ (c .0)) in
       let s : k ≡ h .log .slots = eqb-true k (h .log .slots) (passed _ (a .0)) in
       rw s (search-found h g t1 t2 k1 k2 (ok .0) (ok .1))
 

@@ -10,17 +10,17 @@ use lib.Dec.{ltb}
 use lib.IntN.{ℤ}
 use lib.ListN.{length, getD, length-append}
 use borrow.Author.Tests.{ltb-true}
+use Rattle.codec.proofs.Truth.{and-parts}
 use Rattle.skiplist.specs.declared.Pointer.{Pointer}
 use Rattle.skiplist.specs.Skip.{none, isLive}
 use Rattle.segment.specs.declared.Header.{Header}
 use Rattle.segment.proofs.HeaderRead.{headerOf}
-use Rattle.tree.proofs.Clears.{both}
 use Rattle.walk.specs.declared.SkipWalk.{SkipWalk}
 use Rattle.walk.specs.Seek.{headerAt, hopAt, hop, hops, skipWalk}
-use Rattle.store.specs.Queries.{logOf}
+use Rattle.questions.specs.Queries.{logOf}
 use Rattle.paper_log.specs.Log.{Lift, among, joined}
-use Rattle.refinement.specs.Segments as S
-use Rattle.refinement.specs.Image.{History, oldestHeads, nandImage, liveOf, stateImage}
+use Rattle.refinement.specs.Inner.Segments as S
+use Rattle.refinement.specs.Inner.Image.{History, oldestHeads, nandImage, liveOf, stateImage}
 use Rattle.refinement.proofs.Good as G
 use Rattle.refinement.proofs.Good.{Times, Segments, Good}
 use Rattle.refinement.proofs.PageFrom.{headsAt}
@@ -87,7 +87,7 @@ module _ (h : History) (g : Good h) (t1 t2 : ℕ) (k1 k2 : ℤ) where
           let n = ap length eq ∙ length-append before (ls ∷ after) in
           let late : t2 < S.startTime ls =
           ltb-true t2 (S.startTime ls) (ap (λ (x : Pointer). ltb t2 (x .time)) (sym q)
-          ∙ both (isLive p (liveOf (h .log))) (ltb t2 (p .time)) e .1) in
+          ∙ and-parts (isLive p (liveOf (h .log))) (ltb t2 (p .time)) e .1) in
           let read : headerAt (h .log .form) (nandImage h) (h .log .slots) p (w .before)
           ≡ headerOf (S.closingOf (h .log .form) (h .log .oldest + length before) ls
           (headsAt (h .log .form) (h .log .slots) (h .log .oldest) before (oldestHeads h))) true =

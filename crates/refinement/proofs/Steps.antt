@@ -1,8 +1,8 @@
 -- Each append, close and drop on a history's world: the paper log's number, and the world of the history after it. Assumes nothing.
-use mathlib.Core.Path.{_≡_, refl, sym, ap, ap₂, subst, _∙_}
-use mathlib.Core.Bool.{Bool, true, false, cond, not, _&&_}
+use mathlib.Core.Path.{_≡_, refl, ap, _∙_}
+use mathlib.Core.Bool.{Bool, true, false, cond, not}
 use mathlib.Core.List.{List, [], _∷_}
-use Prim.Native.Nat.{ℕ, zero, suc, _≤_, _<_}
+use Prim.Native.Nat.{ℕ, suc, _≤_, _<_}
 use native.Mathlib.Omega.{arith}
 use lib.Dec.{eqb, leb, ltb}
 use lib.ListN.{length, getD}
@@ -11,9 +11,9 @@ use Rattle.form.specs.declared.Form.{Form}
 use Rattle.lift.specs.Limits.{timeOk, loadOk}
 use Rattle.store.specs.World.{World, closeWorld, dropWorld}
 use Rattle.store.specs.Calls.{Outcome, outcome, closeGround, closeOutcome, dropGround, dropOutcome, appendGround, appendWorld, appendOutcome}
-use Rattle.paper_log.specs.Log.{Lift, Log, openSerial, appendLog, closeLog, dropLog}
+use Rattle.paper_log.specs.Log.{Lift, openSerial}
 use Rattle.paper_log.specs.Calls as Paper
-use Rattle.refinement.specs.Image.{History, image}
+use Rattle.refinement.specs.Inner.Image.{History, image}
 use Rattle.refinement.proofs.Good.{GoodLift, Good}
 use Rattle.refinement.proofs.Close.{closeHistory, good-close, close-world}
 use Rattle.refinement.proofs.Drop.{history, dropHistory, good-drop-some, drop-world-some}

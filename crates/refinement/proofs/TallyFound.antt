@@ -3,26 +3,26 @@
 use mathlib.Core.Path.{_≡_, refl, sym, ap, ap₂, _∙_}
 use mathlib.Core.Bool.{Bool, true, false, cond}
 use mathlib.Core.List.{List, [], _∷_, _++_, map}
-use Prim.Native.Nat.{ℕ, _≤_}
+use Prim.Native.Nat.{ℕ}
 use native.Mathlib.Omega.{arith}
 use lib.Dec.{eqb}
 use lib.IntN.{ℤ, pos, negsuc}
 use lib.ListN.{length}
-use borrow.Author.Tests.{eqb-true, eq-eqb, le-leb, le-ltb}
+use borrow.Author.Tests.{eqb-true, le-ltb}
 use Rattle.codec.proofs.Areas.{part-all}
 use Rattle.lift.specs.Limits.{stored}
 use Rattle.lift.specs.Record.{codeAt}
 use Rattle.lift.proofs.Codes.{within-limits}
 use Rattle.lift.proofs.Records.{length-record, record-read}
 use Rattle.plate.specs.Plate.{noCounts, countsOf}
-use Rattle.search.specs.Answers.{TallyAnswer, tallyAnswer, rowCodes}
+use Rattle.tally.specs.Answers.{TallyAnswer, tallyAnswer, rowCodes}
 use Rattle.search.specs.Found.{foundRows}
 use Rattle.bounds.specs.Grounds.{queryGround}
 use Rattle.store.specs.World.{livenessOf}
-use Rattle.store.specs.Queries.{logOf, queryOf, tallyOutcome}
+use Rattle.questions.specs.Queries.{logOf, queryOf, tallyOutcome}
 use Rattle.paper_log.specs.Calls as Paper
 use Rattle.paper_log.specs.Log.{Lift, codes, wanted, among, joined, found, rowOf}
-use Rattle.refinement.specs.Image.{History, image}
+use Rattle.refinement.specs.Inner.Image.{History, image}
 use Rattle.refinement.proofs.Good.{GoodLift, GoodLifts, AllBuilt, Good}
 use Rattle.refinement.proofs.SearchStep.{windowGround, ground-is, found-if}
 

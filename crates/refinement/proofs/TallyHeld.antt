@@ -11,11 +11,11 @@ use lib.ListN.{length, length-append, length-map}
 use Rattle.lift.specs.Limits.{stored}
 use Rattle.plate.specs.Plate.{noCounts, countsOf, total}
 use Rattle.plate.proofs.Counts.{total-none, counts-total}
-use Rattle.search.specs.Answers.{TallyAnswer}
-use Rattle.store.specs.Queries.{tallyOutcome}
+use Rattle.tally.specs.Answers.{TallyAnswer}
+use Rattle.questions.specs.Queries.{tallyOutcome}
 use Rattle.paper_log.specs.Calls as Paper
 use Rattle.paper_log.specs.Log.{Lift, codes, wanted, among, joined, retained, found}
-use Rattle.refinement.specs.Image.{History, image}
+use Rattle.refinement.specs.Inner.Image.{History, image}
 use Rattle.refinement.proofs.Good.{AllBuilt, Good}
 use Rattle.refinement.proofs.TallyFound.{tally-is}
 

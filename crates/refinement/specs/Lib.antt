@@ -1,5 +1,4 @@
-pub mod Segments
-pub mod Image
 pub mod Run
 pub mod Rules
 pub mod ReadBack
+pub mod Inner

@@ -1,11 +1,12 @@
--- What a call may do to the chips (demand 3): "a changed data page was erased before or lies in a slot that the papers erase in that call;
--- NOR only turns ones to zeros unless the call closed a segment". Assumes nothing.
+-- What a call may do to the chips (README, demand 3): a page of NAND that changes was erased before, or lies in the slot of a serial that goes
+-- in this call ("the slot of a serial that goes is erased in that call, no other"); NOR only turns ones to zeros ("between erasures a write may
+-- only clear bits"), unless the call closed a segment. Assumes nothing.
 use mathlib.Core.Path.{_≡_}
 use mathlib.Core.Bool.{true}
 use mathlib.Core.List.{List, [], _∷_}
 use mathlib.Core.Logic.{_⊎_}
 use Prim.Native.Nat.{ℕ, _+_, _<_}
-use Rattle.flash.specs.Chip.{slotOf, pageOf, pageErased}
+use Rattle.flash.specs.Chip.{slotOf, pageOf, pageErased, slotPages}
 use Rattle.flash.specs.Clears.{OnlyClears}
 use Rattle.store.specs.World.{World}
 use Rattle.paper_log.specs.Log.{Log, openSerial}
@@ -18,7 +19,7 @@ PageKept before after erases s p = (pageOf after s p ≡ pageOf before s p) ⊎ 
 
 -- every page of a chip of S slots
 abbrev pub PagesKept : ℕ → List ℕ → List ℕ → (ℕ → Type 0) → Type 0
-PagesKept slots before after erases = (s p : ℕ) → s < slots → p < 32 → PageKept before after erases s p
+PagesKept slots before after erases = (s p : ℕ) → s < slots → p < slotPages → PageKept before after erases s p
 
 -- one call, by the worlds and the paper logs before and after it: the slot of the serial that goes may be erased; a call that closed a segment
 -- moved the open serial on by one

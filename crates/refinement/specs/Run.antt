@@ -1,18 +1,19 @@
 -- Lists of calls on the store, each given the state and chips that the last one left, and the same calls as the paper log gets them.
 -- Assumes nothing.
 use mathlib.Core.Path.{_≡_}
-use mathlib.Core.Bool.{Bool, false, cond, _||_}
+use mathlib.Core.Bool.{false, cond, _||_}
 use mathlib.Core.List.{List, [], _∷_}
-use Prim.Native.Nat.{ℕ, _/_, _<_}
+use Prim.Native.Nat.{ℕ, _<_}
 use lib.Dec.{eqb}
 use lib.IntN.{ℤ}
 use lib.ListN.{length, getD}
+use Rattle.lift.specs.Rows.{wholeRows}
+use Rattle.lift.specs.Record.{noteWidth}
 use Rattle.codec.specs.Area.{splice}
 use Rattle.search.specs.Answers.{SearchAnswer, rowBytes}
 use Rattle.store.specs.World.{World}
-use Rattle.store.specs.Calls.{Outcome, appendOutcome, closeOutcome, dropOutcome}
-use Rattle.store.specs.Queries.{searchOutcome}
-use Rattle.paper_log.specs.Log.{Lift}
+use Rattle.store.specs.Calls.{appendOutcome, closeOutcome, dropOutcome}
+use Rattle.questions.specs.Queries.{searchOutcome}
 use Rattle.paper_log.specs.Calls as Paper
 
 -- a call as the store gets it; a search brings its result area
@@ -27,7 +28,7 @@ abbrev pub callOf : Request → Paper.Call
 callOf (append slots time load note) = Paper.append slots (record { time = time; load = load; note = note })
 callOf (close slots) = Paper.close slots
 callOf (drop slots) = Paper.drop slots
-callOf (search slots t1 t2 k1 k2 area) = Paper.search slots t1 t2 k1 k2 (length area / 32)
+callOf (search slots t1 t2 k1 k2 area) = Paper.search slots t1 t2 k1 k2 (wholeRows area)
 
 -- the number, and of a search its count and its area after the call
 pub record Reply : Type 0 where
@@ -83,7 +84,7 @@ expectedAll (a ∷ rest) (r ∷ rs) = expected a r ∷ expectedAll rest rs
 
 -- a note is 20 bytes: what its type can hold
 abbrev pub Typed : Request → Type 0
-Typed (append slots time load note) = (length note ≡ 20) × ((i : ℕ) → getD note i 0 < 256)
+Typed (append slots time load note) = (length note ≡ noteWidth) × ((i : ℕ) → getD note i 0 < 256)
 Typed (close slots) = Unit {0}
 Typed (drop slots) = Unit {0}
 Typed (search slots t1 t2 k1 k2 area) = Unit {0}
@@ -92,7 +93,7 @@ abbrev pub AllTyped : List Request → Type 0
 AllTyped [] = Unit {0}
 AllTyped (r ∷ rs) = Typed r × AllTyped rs
 
--- "damage and unerased pages are never reported": no reply has number 10 or 11
+-- neither damage nor an unerased page is reported (README, demand 3): no reply has number 10 or 11
 abbrev pub NeverDamage : List Reply → Type 0
 NeverDamage [] = Unit {0}
 NeverDamage (a ∷ rest) = ((eqb (a .number) 10 || eqb (a .number) 11) ≡ false) × NeverDamage rest

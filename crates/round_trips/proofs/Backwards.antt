@@ -9,26 +9,27 @@ use lib.Dec.{eqb}
 use lib.ListN.{length, getD, take, drop, length-append}
 use lib.Seq.{length-take-le, split-at}
 use borrow.Author.Tests.{eqb-true, not-false}
+use Rattle.codec.proofs.Truth.{and-parts, or-left, or-right}
 use Rattle.flash.specs.Chip.{slotOf, pageOf}
 use Rattle.form.specs.declared.Form.{Form}
 use Rattle.form.specs.declared.Form.the-variants.{Old, New}
 use Rattle.form.specs.Forms.{step}
 use Rattle.skiplist.specs.declared.Pointer.{Pointer}
-use Rattle.skiplist.specs.Skip.{none, isNone, isLive, serialsFrom, levelOf, nodeOf}
+use Rattle.skiplist.specs.Skip.{none, isNone, isLive, serialsFrom, levelOf, nodeOf, noHeads}
 use Rattle.skiplist.specs.PointerBytes.{pointersAt}
 use Rattle.skiplist.proofs.Nodes.{length-node}
 use Rattle.segment.proofs.HeaderBytes.{level-most}
 use Rattle.paper_log.specs.Log.{Lift, openSerial, retained}
-use Rattle.refinement.specs.Segments as S
-use Rattle.refinement.specs.Image.{History, oldestHeads, openHeads, nandImage, firstStart, stateImage, image}
+use Rattle.refinement.specs.Inner.Segments as S
+use Rattle.refinement.specs.Inner.Image.{History, oldestHeads, openHeads, nandImage, firstStart, stateImage, image}
 use Rattle.refinement.proofs.Good.{Times, Segments, Good}
 use Rattle.refinement.proofs.Dead.{none-dead}
-use Rattle.refinement.proofs.InBounds.{isNew, tests-both}
+use Rattle.refinement.proofs.InBounds.{isNew}
 use Rattle.refinement.proofs.PageFrom.{headsAt}
 use Rattle.refinement.proofs.PageLengths.{four-heads, four-oldest}
-use Rattle.conversion.specs.Retained.{anyFrom, anyLate, isLate, rises}
+use Rattle.retained.specs.Retained.{anyFrom, anyLate, isLate, rises}
 use Rattle.conversion.specs.Outcome.{cannotGoBack}
-use Rattle.conversion.proofs.Seeking.{or-left, or-right, none-has}
+use Rattle.retained.proofs.Seeking.{none-has}
 use Rattle.round_trips.specs.GoingBack.{timesOf, oldestLive, PointerIn, head, inHeader, CanGoBack}
 use Rattle.round_trips.proofs.Rising.{strict-times, strict-rises}
 use Rattle.round_trips.proofs.Histories.{into, Strict}
@@ -165,8 +166,8 @@ module _ (h : History) (g : Good h) (e : h .log .form ≡ New) where
     where
       moved : 0 < length (h .log .closed) + length (h .log .current) → (t : Bool) → isNew h ≡ t → h .log .next + 1 ≡ cond t 0 (h .log .next + 1)
       moved l true n =
-          let a = eqb-true (openSerial (h .log)) 1 (tests-both _ _ n .0) in
-          let b = eqb-true (length (h .log .current)) 0 (tests-both (eqb (openSerial (h .log)) 1) _ n .1) in
+          let a = eqb-true (openSerial (h .log)) 1 (and-parts _ _ n .0) in
+          let b = eqb-true (length (h .log .current)) 0 (and-parts (eqb (openSerial (h .log)) 1) _ n .1) in
           absurd (omega (arith, a, b, g .serial))
       moved l false n = refl
 
@@ -194,7 +195,7 @@ module _ (h : History) (g : Good h) (e : h .log .form ≡ New) where
   pub accepted-undropped : h .log .oldest ≡ 1 → rises (timesOf (retained (h .log))) ≡ true → cannotGoBack (image h) (h .log .slots) ≡ false
   unfolding S.headsFrom
   accepted-undropped one r = accepted-if-dead r (λ k.
-      subst (λ (gone : List ℕ). isLiveFrom first (getD (S.headsFrom Old slots 1 gone S.noHeads) k none) ≡ false) (sym nothing)
+      subst (λ (gone : List ℕ). isLiveFrom first (getD (S.headsFrom Old slots 1 gone noHeads) k none) ≡ false) (sym nothing)
       (none-dead k (record { form = Old; oldest = first })))
     where
       nothing : h .gone ≡ []

@@ -14,7 +14,7 @@ use Rattle.codec.proofs.Areas.{length-part, length-splice, part-part, part-insi
 use Rattle.flash.specs.Chip.{slotOf, pageOf}
 use Rattle.flash.proofs.Slots.{slots-differ, slot-below}
 use Rattle.form.specs.declared.Form.{Form}
-use Rattle.conversion.specs.Carried.{headerInto, slotInto, closedInto}
+use Rattle.carry.specs.Carried.{headerInto, slotInto, closedInto}
 
 -- ---- a slot replaced
 

@@ -22,13 +22,13 @@ use Rattle.segment.specs.Header.{headerGood, headerIn}
 use Rattle.segment.proofs.HeaderRead.{header-numbers}
 use Rattle.segment.proofs.HeaderSound.{sound-numbers}
 use Rattle.paper_log.specs.Log.{Lift, openSerial}
-use Rattle.refinement.specs.Segments as S
-use Rattle.refinement.specs.Image.{History, oldestHeads, nandImage}
+use Rattle.refinement.specs.Inner.Segments as S
+use Rattle.refinement.specs.Inner.Image.{History, oldestHeads, nandImage}
 use Rattle.refinement.proofs.Good.{Good}
 use Rattle.refinement.proofs.PageFrom.{headsAt}
 use Rattle.refinement.proofs.Retained.{retained-page, retained-header, sound}
-use Rattle.conversion.specs.Carried.{other}
-use Rattle.conversion.specs.Retained.{isForm, isDamaged}
+use Rattle.carry.specs.Carried.{other}
+use Rattle.retained.specs.Retained.{isForm, isDamaged}
 
 -- what is read of the header page of serial n
 pub record Read (h : History) (before : List (List Lift)) (ls : List Lift) (n : ℕ) (page : List ℕ) : Type 0 where

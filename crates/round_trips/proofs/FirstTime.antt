@@ -13,12 +13,12 @@ use Rattle.form.specs.declared.Form.{Form}
 use Rattle.segment.proofs.HeaderRead.{header-numbers}
 use Rattle.segment.proofs.HeaderSound.{sound-numbers}
 use Rattle.paper_log.specs.Log.{Lift, openSerial, joined}
-use Rattle.refinement.specs.Segments as S
-use Rattle.refinement.specs.Image.{History, nandImage, firstStart, stateImage, image}
+use Rattle.refinement.specs.Inner.Segments as S
+use Rattle.refinement.specs.Inner.Image.{History, nandImage, firstStart, stateImage, image}
 use Rattle.refinement.proofs.Good as G
 use Rattle.refinement.proofs.Good.{Segments, Good}
 use Rattle.refinement.proofs.Retained.{retained-page, sound}
-use Rattle.conversion.specs.Carried.{firstTime}
+use Rattle.carry.specs.Carried.{firstTime}
 use Rattle.round_trips.specs.GoingBack.{firstOf}
 use Rattle.round_trips.proofs.Histories.{into}
 

@@ -17,13 +17,13 @@ use Rattle.skiplist.specs.Skip.{pointing, none, isNone, isLive, serialsFrom, le
 use Rattle.skiplist.proofs.Nodes.{node-below, node-above, heads-above}
 use Rattle.segment.proofs.HeaderBytes.{level-most}
 use Rattle.paper_log.specs.Log.{Lift}
-use Rattle.refinement.specs.Segments as S
-use Rattle.refinement.specs.Image.{History, oldestHeads, openHeads, liveOf}
+use Rattle.refinement.specs.Inner.Segments as S
+use Rattle.refinement.specs.Inner.Image.{History, oldestHeads, openHeads, liveOf}
 use Rattle.refinement.proofs.Good.{Good}
 use Rattle.refinement.proofs.PageFrom.{headsAt, heads-snoc}
 use Rattle.refinement.proofs.PageLengths.{four-heads, four-oldest}
-use Rattle.conversion.specs.Carried.{pointerInto}
-use Rattle.conversion.specs.Retained.{isLate}
+use Rattle.carry.specs.Carried.{pointerInto}
+use Rattle.retained.specs.Retained.{isLate}
 use Rattle.round_trips.proofs.AllHeads.{heads-all}
 use Rattle.round_trips.proofs.Histories.{into}
 use Rattle.round_trips.proofs.Heads.{heads-into, four-into}

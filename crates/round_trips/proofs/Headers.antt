@@ -22,8 +22,8 @@ use Rattle.segment.specs.declared.Closing.{Closing}
 use Rattle.segment.specs.Header.{formBytes, countBytes, spanBytes, headerPage}
 use Rattle.segment.proofs.HeaderBytes.{level-most, length-span}
 use Rattle.segment.proofs.HeaderRead.{NumbersFit, HeadsFit, header-node}
-use Rattle.conversion.specs.Carried.{other, pointerInto, pointersFrom, headerInto}
-use Rattle.conversion.proofs.Carrying.{length-from, length-form}
+use Rattle.carry.specs.Carried.{other, pointerInto, pointersInto, headerInto}
+use Rattle.carry.proofs.Carrying.{length-from, length-form}
 
 -- ---- a node
 
@@ -32,22 +32,22 @@ unfolding pointerInto
 none-carried Old n k = refl
 none-carried New n k = refl
 
-pub at-from : (f : Form) (n j k : ℕ) (ps : List Pointer) → k < length ps → getD (pointersFrom f n j ps) k none ≡ pointerInto f n (j + k) (getD ps k none)
-unfolding pointersFrom
+pub at-from : (f : Form) (n j k : ℕ) (ps : List Pointer) → k < length ps → getD (pointersInto f n j ps) k none ≡ pointerInto f n (j + k) (getD ps k none)
+unfolding pointersInto
 at-from f n j k [] l = absurd (omega arith)
 at-from f n j zero (p ∷ ps) l = let e : j + 0 ≡ j = omega arith in rw e
 at-from f n j (suc k) (p ∷ ps) l = let e : j + suc k ≡ suc j + k = omega arith in rw e (at-from f n (suc j) k ps (omega arith))
 
 module _ (f : Form) (n : ℕ) (from to : List Pointer) (a : length from ≡ 4) (b : length to ≡ 4)
     (carried : (k : ℕ) → k < 4 → pointerInto f n k (getD from k none) ≡ getD to k none) where
-  pub node-carried : (level : ℕ) → level ≤ 4 → pointersFrom f n 0 (nodeOf from level) ≡ nodeOf to level
+  pub node-carried : (level : ℕ) → level ≤ 4 → pointersInto f n 0 (nodeOf from level) ≡ nodeOf to level
   node-carried level few =
       let l = length-from f n 0 (nodeOf from level) in
       let four = length-node from a level few in
-      ext-getD none (pointersFrom f n 0 (nodeOf from level)) (nodeOf to level) (l ∙ four ∙ sym (length-node to b level few))
+      ext-getD none (pointersInto f n 0 (nodeOf from level)) (nodeOf to level) (l ∙ four ∙ sym (length-node to b level few))
       (λ k below. one k (omega arith))
     where
-      one : (k : ℕ) → k < 4 → getD (pointersFrom f n 0 (nodeOf from level)) k none ≡ getD (nodeOf to level) k none
+      one : (k : ℕ) → k < 4 → getD (pointersInto f n 0 (nodeOf from level)) k none ≡ getD (nodeOf to level) k none
       one k l =
           let z : 0 + k ≡ k = omega arith in
           at-from f n 0 k (nodeOf from level) (omega (arith, length-node from a level few)) ∙ rw z (go (decLt k level))

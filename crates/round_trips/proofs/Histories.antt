@@ -15,12 +15,12 @@ use Rattle.form.specs.declared.Form.the-variants.{Old, New}
 use Rattle.form.specs.Forms.{step}
 use Rattle.skiplist.specs.declared.Pointer.{Pointer}
 use Rattle.skiplist.specs.Skip as Skip
-use Rattle.skiplist.specs.Skip.{pointing, serialsFrom, isLive, isNone, levelOf, headsAfter}
+use Rattle.skiplist.specs.Skip.{pointing, serialsFrom, isLive, isNone, levelOf, headsAfter, noHeads}
 use Rattle.skiplist.proofs.Nodes.{heads-below}
 use Rattle.segment.proofs.HeaderBytes.{level-most}
 use Rattle.paper_log.specs.Log.{Lift, openSerial}
-use Rattle.refinement.specs.Segments as S
-use Rattle.refinement.specs.Image.{History, oldestHeads, firstStart, liveOf}
+use Rattle.refinement.specs.Inner.Segments as S
+use Rattle.refinement.specs.Inner.Image.{History, oldestHeads, firstStart, liveOf}
 use Rattle.refinement.proofs.Good as G
 use Rattle.refinement.proofs.Good.{Times, Segments, Good}
 use Rattle.refinement.proofs.PageLengths.{four-after}
@@ -28,7 +28,7 @@ use Rattle.refinement.proofs.Dead.{dead-below, none-dead}
 use Rattle.refinement.proofs.InBounds.{isNew, fresh}
 use Rattle.refinement.proofs.Pointers.{level-least}
 use Rattle.flash.proofs.Slots.{slot-below}
-use Rattle.conversion.specs.Carried.{other}
+use Rattle.carry.specs.Carried.{other}
 use Rattle.round_trips.specs.InForm.{logInto}
 use Rattle.round_trips.proofs.AllHeads.{heads-all}
 use Rattle.round_trips.proofs.Rising.{StrictTimes}
@@ -78,7 +78,7 @@ good-up h g e =
       later = λ q. omega arith;
       limited = g .limited;
       dead = λ k.
-          older (h .log .slots) 1 (h .log .oldest) k (h .gone) S.noHeads refl (omega (arith, g .serial)) (λ j. none-dead j (serialsFrom (h .log .oldest)));
+          older (h .log .slots) 1 (h .log .oldest) k (h .gone) noHeads refl (omega (arith, g .serial)) (λ j. none-dead j (serialsFrom (h .log .oldest)));
       closed = segments-weaker (subst (λ (s : ℕ). Segments s (g .before) (h .log .closed) (g .begun)) d (g .closed));
       current = times-weaker (h .log .current) (subst (λ (s : ℕ). Times s (g .begun) (h .log .current) (h .log .next)) d (g .current));
       end = omega (arith, g .end);
@@ -110,10 +110,10 @@ head-stays slots n [] heads a b four e = e
 head-stays slots n (t ∷ ts) heads a b four e =
     head-stays slots (suc n) ts _ a b (four-after heads n (pointing Old (slotOf n slots) n t) four) (head-there slots n t heads a b four)
 
-some-gone : (slots t : ℕ) (ts : List ℕ) → 1 ≤ slots → slots ≤ 4096 → isNone (getD (S.headsFrom Old slots 1 (t ∷ ts) S.noHeads) 0 Skip.none) ≡ false
+some-gone : (slots t : ℕ) (ts : List ℕ) → 1 ≤ slots → slots ≤ 4096 → isNone (getD (S.headsFrom Old slots 1 (t ∷ ts) noHeads) 0 Skip.none) ≡ false
 unfolding S.headsFrom
 some-gone slots t ts a b =
-    head-stays slots 2 ts _ a b (four-after S.noHeads 1 (pointing Old (slotOf 1 slots) 1 t) refl) (head-there slots 1 t S.noHeads a b refl)
+    head-stays slots 2 ts _ a b (four-after noHeads 1 (pointing Old (slotOf 1 slots) 1 t) refl) (head-there slots 1 t noHeads a b refl)
 
 -- a pointer that is neither none nor live has an earlier time
 earlier : (p : Pointer) (first : ℕ) → isNone p ≡ false → isLive p (record { form = Old; oldest = first }) ≡ false → p .time < first
@@ -183,7 +183,7 @@ good-down h g e s = go (h .gone) refl
         let first : ℕ = firstStart (h .log .closed) (h .log .current) next' in
         let head : Pointer = getD (oldestHeads (into Old h)) 0 Skip.none in
         let n : isNone head ≡ false =
-        ap (λ (x : List ℕ). isNone (getD (S.headsFrom Old (h .log .slots) 1 x S.noHeads) 0 Skip.none)) q
+        ap (λ (x : List ℕ). isNone (getD (S.headsFrom Old (h .log .slots) 1 x noHeads) 0 Skip.none)) q
         ∙ some-gone (h .log .slots) t ts (omega (arith, g .least)) (g .most) in
         with-times first (s .times .begun)
         (λ z. absurd (omega (arith, ap length q))) (λ z. omega (arith, earlier head first n (s .dead 0))) (s .times .closed-times) (s .times .current-times)

@@ -11,14 +11,14 @@ use Rattle.store.specs.World.{World}
 use Rattle.store.specs.Calls.{Outcome}
 use Rattle.paper_log.specs.Log.{Log, begun}
 use Rattle.paper_log.specs.Calls as Paper
-use Rattle.refinement.specs.Image.{History, image}
+use Rattle.refinement.specs.Inner.Image.{History, image}
 use Rattle.refinement.specs.Run.{Request, callOf, worldAfter, Typed}
 use Rattle.refinement.proofs.Good.{Good}
 use Rattle.refinement.proofs.Begun.{begunHistory, good-begun, format-world}
 use Rattle.refinement.proofs.Steps as Steps
 use Rattle.refinement.proofs.Reached.{world-is, good-after}
 use Rattle.refinement.proofs.Demands.{log-stays}
-use Rattle.conversion.specs.Carried.{other}
+use Rattle.carry.specs.Carried.{other}
 use Rattle.conversion.specs.Outcome.{backGround, carryOutcome}
 use Rattle.round_trips.specs.InForm.{logInto}
 use Rattle.round_trips.specs.Reaches.{Chips, Reaches, formatted, called, carried}

@@ -26,14 +26,14 @@ use Rattle.segment.specs.Header.{headerPage}
 use Rattle.segment.proofs.HeaderBytes.{serial-most}
 use Rattle.segment.proofs.HeaderSound.{sound-numbers, sound-heads}
 use Rattle.paper_log.specs.Log.{Lift, openSerial}
-use Rattle.refinement.specs.Segments as S
-use Rattle.refinement.specs.Image.{History, oldestHeads, pageFrom, nandImage, stateImage, image}
+use Rattle.refinement.specs.Inner.Segments as S
+use Rattle.refinement.specs.Inner.Image.{History, oldestHeads, pageFrom, nandImage, stateImage, image}
 use Rattle.refinement.proofs.Good.{Good}
 use Rattle.refinement.proofs.PageFrom.{headsAt, page-open, heads-snoc}
 use Rattle.refinement.proofs.PageLengths.{four-heads, four-oldest, length-nand, page-of-nand}
 use Rattle.refinement.proofs.Retained.{retained-page, sound}
-use Rattle.conversion.specs.Carried.{other, pointersFrom, headerInto, closedInto, nandInto}
-use Rattle.conversion.proofs.Carrying.{length-from}
+use Rattle.carry.specs.Carried.{other, pointersInto, headerInto, closedInto, nandInto}
+use Rattle.carry.proofs.Carrying.{length-from}
 use Rattle.round_trips.proofs.Histories.{into}
 use Rattle.round_trips.proofs.Heads.{heads-into}
 use Rattle.round_trips.proofs.Headers.{header-carried}
@@ -46,7 +46,7 @@ length-into-header f n h e =
     let a = length-part h 0 10 (omega arith) in
     let b = length-part h 16 24 (omega arith) in
     let m = serial-most f in
-    let ps = pointersFrom f n 0 (pointersAt (other f) h 40) in
+    let ps = pointersInto f n 0 (pointersAt (other f) h 40) in
     let c : length (pointersBytes f ps) ≡ 4 * pointerWidth f =
     length-pointers f ps ∙ ap (λ (k : ℕ). k * pointerWidth f) (length-from f n 0 (pointersAt (other f) h 40)) in
     simp (length-append, length-bytes, length-repeated, a, b, c) (omega arith)

@@ -6,12 +6,13 @@ use native.Mathlib.Omega.{arith}
 use lib.Dec.{eqb}
 use lib.ListN.{length}
 use borrow.Author.Tests.{eq-eqb, eqb-true}
+use Rattle.codec.proofs.Truth.{and-both, and-parts}
 use Rattle.form.specs.declared.Form.the-variants.{Old, New}
 use Rattle.form.specs.Forms.{step}
 use Rattle.paper_log.specs.Log.{openSerial}
-use Rattle.refinement.specs.Image.{History}
+use Rattle.refinement.specs.Inner.Image.{History}
 use Rattle.refinement.proofs.Good.{Good}
-use Rattle.refinement.proofs.InBounds.{both, tests-both, isNew, fresh}
+use Rattle.refinement.proofs.InBounds.{isNew, fresh}
 use Rattle.round_trips.specs.InForm.{logInto, NextMoves}
 
 module _ (h : History) (g : Good h) where
@@ -22,13 +23,13 @@ module _ (h : History) (g : Good h) where
   count = length (h .log .current)
 
   is-new : current ≡ 1 → count ≡ 0 → isNew h ≡ true
-  is-new a b = both _ _ (eq-eqb current 1 a) (eq-eqb count 0 b)
+  is-new a b = and-both _ _ (eq-eqb current 1 a) (eq-eqb count 0 b)
 
   not-new : ((current ≡ 1) × (count ≡ 0) → ⊥) → isNew h ≡ false
   not-new f = go (isNew h) refl
     where
       go : (t : Bool) → isNew h ≡ t → t ≡ false
-      go true q = absurd (f (eqb-true current 1 (tests-both _ _ q .0), eqb-true count 0 (tests-both (eqb current 1) _ q .1)))
+      go true q = absurd (f (eqb-true current 1 (and-parts _ _ q .0), eqb-true count 0 (and-parts (eqb current 1) _ q .1)))
       go false q = refl
 
   pub next-there : h .log .form ≡ Old

@@ -11,14 +11,14 @@ use Rattle.form.specs.declared.Form.the-variants.{Old, New}
 use Rattle.bounds.specs.Grounds.{ground, nandBad, norBad}
 use Rattle.store.specs.Bounds.{withinBounds}
 use Rattle.paper_log.specs.Log.{openSerial}
-use Rattle.refinement.specs.Image.{History, stateImage, image}
+use Rattle.refinement.specs.Inner.Image.{History, stateImage, image}
 use Rattle.refinement.proofs.Good.{Good}
 use Rattle.refinement.proofs.Lengths.{length-nor}
 use Rattle.refinement.proofs.PageLengths.{length-nand}
 use Rattle.refinement.proofs.InBounds.{in-bounds}
 use Rattle.refinement.proofs.Grounds.{own-good}
-use Rattle.conversion.specs.Carried.{other, worldInto}
-use Rattle.conversion.specs.Retained.{anyClosed, isForm, isDamaged}
+use Rattle.carry.specs.Carried.{other, worldInto}
+use Rattle.retained.specs.Retained.{anyClosed, isForm, isDamaged}
 use Rattle.conversion.specs.Outcome.{backGround, carryGround, carryOutcome}
 use Rattle.round_trips.specs.Reaches.{Chips}
 use Rattle.round_trips.proofs.Histories.{into, good-up, good-down}

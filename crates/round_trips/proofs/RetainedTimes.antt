@@ -10,15 +10,15 @@ use Rattle.flash.specs.Chip.{slotOf, pagesOf}
 use Rattle.lift.specs.Rows.{timeIn}
 use Rattle.bloom.specs.Pages.{each}
 use Rattle.paper_log.specs.Log.{Lift, openSerial, joined, retained}
-use Rattle.refinement.specs.Segments as S
-use Rattle.refinement.specs.Image.{History, nandImage, stateImage, image}
+use Rattle.refinement.specs.Inner.Segments as S
+use Rattle.refinement.specs.Inner.Image.{History, nandImage, stateImage, image}
 use Rattle.refinement.specs.ReadBack.{liftIn, segmentIn, segmentsIn}
 use Rattle.refinement.proofs.Good.{Good}
 use Rattle.refinement.proofs.Wanted.{noLift, map-append}
 use Rattle.refinement.proofs.Records.{current-reads}
 use Rattle.refinement.proofs.ReadBack.{each-is, segments-read}
-use Rattle.conversion.specs.Carried.{headerOf}
-use Rattle.conversion.specs.Retained.{closedTimes, timesFrom, openTimes, retainedTimes}
+use Rattle.carry.specs.Carried.{headerOf}
+use Rattle.retained.specs.Retained.{closedTimes, timesFrom, openTimes, retainedTimes}
 use Rattle.round_trips.specs.GoingBack.{timesOf}
 use Rattle.round_trips.proofs.Closed.{header-at}
 

@@ -8,13 +8,12 @@ use native.Mathlib.Omega.{arith}
 use lib.Dec.{ltb}
 use lib.ListN.{length}
 use borrow.Author.Tests.{ltb-true, lt-ltb}
+use Rattle.codec.proofs.Truth.{and-both, and-left, and-right}
 use Rattle.paper_log.specs.Log.{Lift, joined}
-use Rattle.segment.proofs.HeaderSound.{and-left, and-right}
-use Rattle.refinement.specs.Image.{firstStart}
+use Rattle.refinement.specs.Inner.Image.{firstStart}
 use Rattle.refinement.proofs.Good as G
 use Rattle.refinement.proofs.Good.{Times, Segments}
-use Rattle.refinement.proofs.InBounds.{both}
-use Rattle.conversion.specs.Retained.{risesFrom, rises}
+use Rattle.retained.specs.Retained.{risesFrom, rises}
 use Rattle.round_trips.specs.GoingBack.{timesOf}
 
 -- ---- from times that rise
@@ -86,7 +85,7 @@ times-rise : (ls rest : List Lift) (t : ℕ) {n m : ℕ} → n ≡ t + 1 → Tim
     → ((u : ℕ) → m ≡ u + 1 → risesFrom u (timesOf rest) ≡ true) → risesFrom t (timesOf (ls ++ rest)) ≡ true
 unfolding risesFrom
 times-rise [] rest t e G.none f = f t e
-times-rise (l ∷ ls) rest t e (G.more a u) f = both _ _ (lt-ltb t (l .time) (omega arith)) (times-rise ls rest (l .time) refl u f)
+times-rise (l ∷ ls) rest t e (G.more a u) f = and-both _ _ (lt-ltb t (l .time) (omega arith)) (times-rise ls rest (l .time) refl u f)
 
 segments-rise : (c : List (List Lift)) (rest : List Lift) (t : ℕ) {n m : ℕ} → n ≡ t + 1 → Segments 1 n c m
     → ((u : ℕ) → m ≡ u + 1 → risesFrom u (timesOf rest) ≡ true) → risesFrom t (timesOf (joined c ++ rest)) ≡ true

@@ -11,13 +11,13 @@ use Rattle.form.specs.declared.Form.{Form}
 use Rattle.form.specs.declared.Form.the-variants.{Old, New}
 use Rattle.plate.specs.Plate.{noCounts, countsOf}
 use Rattle.bounds.specs.Grounds.{ground}
-use Rattle.search.specs.Answers.{TallyAnswer}
+use Rattle.tally.specs.Answers.{TallyAnswer}
 use Rattle.store.specs.World.{World}
 use Rattle.store.specs.Calls.{Outcome, formatOutcome}
-use Rattle.store.specs.Queries.{searchOutcome, tallyOutcome}
+use Rattle.questions.specs.Queries.{searchOutcome, tallyOutcome}
 use Rattle.paper_log.specs.Log.{Lift, Log, begun, openSerial, codes, retained}
 use Rattle.paper_log.specs.Calls as Paper
-use Rattle.refinement.specs.Image.{History, stateImage, image}
+use Rattle.refinement.specs.Inner.Image.{History, stateImage, image}
 use Rattle.refinement.specs.Run.{Request, callOf, replies, runAfter, expectedAll, AllTyped, NeverDamage}
 use Rattle.refinement.specs.Rules.{AllKept}
 use Rattle.refinement.specs.ReadBack.{segmentsIn}
@@ -26,8 +26,8 @@ use Rattle.refinement.proofs.EachCall.{all-kept}
 use Rattle.refinement.proofs.ReadBack.{segments-read}
 use Rattle.refinement.proofs.TallyFound.{tally-is}
 use Rattle.refinement.proofs.Demands.{fair-all, log-stays}
-use Rattle.conversion.specs.Carried.{other, firstTime}
-use Rattle.conversion.specs.Retained.{rises}
+use Rattle.carry.specs.Carried.{other, firstTime}
+use Rattle.retained.specs.Retained.{rises}
 use Rattle.conversion.specs.Outcome.{cannotGoBack, carryOutcome}
 use Rattle.round_trips.specs.InForm.{logInto, NextMoves}
 use Rattle.round_trips.specs.Reaches.{Chips, Reaches, formatted, called}

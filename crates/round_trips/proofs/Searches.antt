@@ -5,10 +5,10 @@ use Prim.Native.Nat.{ℕ}
 use lib.IntN.{ℤ}
 use Rattle.form.specs.declared.Form.{Form}
 use Rattle.search.specs.Answers.{SearchAnswer}
-use Rattle.store.specs.Queries.{searchOutcome, tallyOutcome}
+use Rattle.questions.specs.Queries.{searchOutcome, tallyOutcome}
 use Rattle.paper_log.specs.Log.{found}
 use Rattle.paper_log.specs.Calls as Paper
-use Rattle.refinement.specs.Image.{History, image}
+use Rattle.refinement.specs.Inner.Image.{History, image}
 use Rattle.refinement.specs.Run.{Reply}
 use Rattle.refinement.proofs.Good.{Good}
 use Rattle.refinement.proofs.SearchStep.{search-step}

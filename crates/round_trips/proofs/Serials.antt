@@ -16,9 +16,9 @@ use Rattle.skiplist.specs.declared.Pointer.{Pointer}
 use Rattle.skiplist.specs.Skip.{pointing, none, levelOf, headsAfter}
 use Rattle.skiplist.proofs.Nodes.{heads-below, heads-above}
 use Rattle.segment.proofs.HeaderBytes.{level-most}
-use Rattle.refinement.specs.Segments as S
+use Rattle.refinement.specs.Inner.Segments as S
 use Rattle.refinement.proofs.PageLengths.{four-after}
-use Rattle.conversion.specs.Carried.{other, multipleBelow, pointerInto}
+use Rattle.carry.specs.Carried.{other, multipleBelow, pointerInto}
 
 -- a serial's level, by its remainder
 pub data Level (n : ℕ) : Type 0 where

@@ -7,10 +7,10 @@ use native.Mathlib.Omega.{arith}
 use lib.Dec.{leb}
 use lib.ListN.{length, getD}
 use borrow.Author.Tests.{leb-false, lt-leb}
+use Rattle.codec.proofs.Truth.{or-left, or-right}
 use Rattle.skiplist.specs.declared.Pointer.{Pointer}
 use Rattle.skiplist.specs.Skip.{none, isNone, isLive, serialsFrom}
-use Rattle.conversion.specs.Retained.{anyFrom, isLate, anyLate}
-use Rattle.conversion.proofs.Seeking.{or-left, or-right}
+use Rattle.retained.specs.Retained.{anyFrom, isLate, anyLate}
 
 -- ---- serials; `none-has` of `conversion` is the other way round
 

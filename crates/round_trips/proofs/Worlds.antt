@@ -9,12 +9,12 @@ use Rattle.form.specs.declared.Form.{Form}
 use Rattle.skiplist.specs.Skip.{none}
 use Rattle.store.specs.World.{World, liveTime}
 use Rattle.paper_log.specs.Log.{openSerial}
-use Rattle.refinement.specs.Segments as S
-use Rattle.refinement.specs.Image.{History, oldestHeads, openHeads, nandImage, firstStart, stateImage, image}
+use Rattle.refinement.specs.Inner.Segments as S
+use Rattle.refinement.specs.Inner.Image.{History, oldestHeads, openHeads, nandImage, firstStart, stateImage, image}
 use Rattle.refinement.proofs.Good.{Good}
 use Rattle.refinement.proofs.PageLengths.{four-heads, four-oldest}
-use Rattle.conversion.specs.Carried.{other, pointersFrom, stateInto, worldInto}
-use Rattle.conversion.proofs.Carrying.{length-from}
+use Rattle.carry.specs.Carried.{other, pointersInto, stateInto, worldInto}
+use Rattle.carry.proofs.Carrying.{length-from}
 use Rattle.round_trips.proofs.Histories.{into}
 use Rattle.round_trips.proofs.Heads.{heads-into}
 use Rattle.round_trips.proofs.FirstTime.{first-is}
@@ -28,7 +28,7 @@ module _ (f : Form) (h : History) (g : Good h) (e : h .log .form ≡ other f) (g
   abbrev oldest : ℕ
   oldest = h .log .oldest
 
-  heads-is : pointersFrom f (openSerial (h .log)) 0 (openHeads h) ≡ openHeads (into f h)
+  heads-is : pointersInto f (openSerial (h .log)) 0 (openHeads h) ≡ openHeads (into f h)
   heads-is =
       ext-getD none _ (openHeads (into f h)) (length-from f (openSerial (h .log)) 0 (openHeads h) ∙ four-old ∙ sym four-new) (λ k l.
       let m : k < 4 = omega (arith, length-from f (openSerial (h .log)) 0 (openHeads h), four-old) in

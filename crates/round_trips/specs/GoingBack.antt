@@ -5,14 +5,15 @@ use mathlib.Core.Bool.{true, false}
 use mathlib.Core.List.{List, [], _∷_, map}
 use Prim.Native.Nat.{ℕ, _≤_, _<_}
 use lib.ListN.{getD}
+use Rattle.segment.specs.Header.{pointersFrom}
 use Rattle.form.specs.declared.Form.the-variants.{Old, New}
 use Rattle.skiplist.specs.declared.Pointer.{Pointer}
-use Rattle.skiplist.specs.Skip.{none, isNone, isLive, serialsFrom}
+use Rattle.skiplist.specs.Skip.{none, isNone, isLive, serialsFrom, levels}
 use Rattle.skiplist.specs.PointerBytes.{pointersAt}
 use Rattle.store.specs.World.{World}
 use Rattle.paper_log.specs.Log.{Lift, Log, retained}
-use Rattle.conversion.specs.Carried.{headerOf}
-use Rattle.conversion.specs.Retained.{rises}
+use Rattle.carry.specs.Carried.{headerOf}
+use Rattle.retained.specs.Retained.{rises}
 use Rattle.round_trips.specs.InForm.{logInto}
 
 -- the times of all retained lifts, in order of arrival
@@ -29,9 +30,9 @@ oldestLive g = firstOf (retained g) (logInto Old g .next)
 
 -- the pointers of a store: the four heads, and four in the header of every retained closed segment
 pub data PointerIn (w : World) (slots : ℕ) : Pointer → Type 0 where
-  head : (k : ℕ) → k < 4 → PointerIn w slots (getD (w .state .heads) k none)
-  inHeader : (n k : ℕ) → w .state .oldest ≤ n → n < w .state .current → k < 4
-      → PointerIn w slots (getD (pointersAt New (headerOf (w .nand) slots n) 40) k none)
+  head : (k : ℕ) → k < levels → PointerIn w slots (getD (w .state .heads) k none)
+  inHeader : (n k : ℕ) → w .state .oldest ≤ n → n < w .state .current → k < levels
+      → PointerIn w slots (getD (pointersAt New (headerOf (w .nand) slots n) pointersFrom) k none)
 
 -- each retained lift is later than the one before it, and each pointer that is neither none nor live is earlier than the oldest live
 -- time

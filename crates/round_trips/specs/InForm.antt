@@ -4,7 +4,7 @@ use Prim.Native.Nat.{ℕ, _+_}
 use lib.ListN.{length}
 use Rattle.form.specs.declared.Form.{Form}
 use Rattle.paper_log.specs.Log.{Log, openSerial}
-use Rattle.conversion.specs.Carried.{nextInto}
+use Rattle.carry.specs.Carried.{nextInto}
 
 -- the same lifts under the same serials; next time as that form has it
 abbrev pub logInto : Form → Log → Log

@@ -4,20 +4,21 @@ use mathlib.Core.Path.{_≡_}
 use mathlib.Core.List.{List}
 use Prim.Native.Nat.{ℕ, _*_}
 use lib.ListN.{length}
+use Rattle.flash.specs.Chip.{slotWidth, norWidth}
 use Rattle.form.specs.declared.Form.{Form}
 use Rattle.store.specs.World.{World}
 use Rattle.store.specs.Calls.{formatOutcome}
 use Rattle.paper_log.specs.Log.{Log, begun}
 use Rattle.paper_log.specs.Calls as Paper
 use Rattle.refinement.specs.Run.{Request, callOf, worldAfter, Typed}
-use Rattle.conversion.specs.Carried.{other}
+use Rattle.carry.specs.Carried.{other}
 use Rattle.conversion.specs.Outcome.{carryOutcome}
 use Rattle.round_trips.specs.InForm.{logInto}
 
 -- chips of S slots, whatever they hold
 pub record Chips (slots : ℕ) (nand nor : List ℕ) : Type 0 where
-  pub nand-size : length nand ≡ slots * 16384
-  pub nor-size : length nor ≡ 6144
+  pub nand-size : length nand ≡ slots * slotWidth
+  pub nor-size : length nor ≡ norWidth
 
 -- a call is one of the store's own form; it may be refused, and it may name another S
 pub data Reaches (slots : ℕ) : World → Log → Type 0 where

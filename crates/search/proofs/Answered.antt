@@ -7,30 +7,23 @@ use Prim.Native.Nat.{ℕ, _+_, _*_, _/_, _≤_, _<_}
 use native.Mathlib.Omega.{arith}
 use lib.ListN.{length}
 use borrow.Author.Tests.{not-true, not-false, lt-ltb, le-ltb}
+use Rattle.codec.proofs.Truth.{and-left, and-right}
 use Rattle.skiplist.specs.Skip.{Live}
 use Rattle.walk.specs.declared.Cursor.{Cursor}
 use Rattle.walk.specs.declared.Log.{Log}
 use Rattle.walk.specs.declared.Query.{Query}
 use Rattle.walk.specs.Visit.{openRows}
 use Rattle.walk.specs.Seek.{startOf}
-use Rattle.walk.specs.Sound.{InSlots, Begun}
+use Rattle.walk.specs.Inner.Sound.{InSlots, Begun}
 use Rattle.walk.proofs.Hops.{start-begun}
 use Rattle.search.specs.declared.Counted.{Counted}
 use Rattle.search.specs.Answers.{SearchAnswer, searchAnswer}
 use Rattle.search.specs.Found.{joinRows, rowsFrom, closedFound, foundRows}
-use Rattle.search.specs.Turns.{allRows, rowsAfter, rowsIn, countOf, writtenIn, WrittenUpTo, CountIs}
+use Rattle.search.specs.Inner.Turns.{allRows, rowsAfter, rowsIn, countOf, writtenIn, WrittenUpTo, CountIs}
 use Rattle.search.proofs.Counts.{never, count-join, count-most}
 use Rattle.search.proofs.Matched.{open-few}
 use Rattle.search.proofs.Segments.{rows-any, rows-wide}
 use Rattle.search.proofs.Written.{newer-fit, older-left, older-before}
-
-pub and-left : (a b : Bool) → (a && b) ≡ true → a ≡ true
-and-left true b e = refl
-and-left false b e = e
-
-pub and-right : (a b : Bool) → (a && b) ≡ true → b ≡ true
-and-right true b e = e
-and-right false b e = let z : false ≡ true = e in cc
 
 pub join-none : (older : Option (List (List ℕ))) → joinRows older none ≡ none
 join-none none = refl

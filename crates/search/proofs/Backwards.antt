@@ -1,6 +1,5 @@
 -- Rows written from the end of the count backwards: newer rows first, the older ones before them, are all rows from the area's
--- start.
--- Assumes nothing.
+-- start. Assumes nothing.
 use mathlib.Core.Path.{_≡_, refl, sym, ap, _∙_}
 use mathlib.Core.List.{List, [], _∷_, _++_, append-assoc}
 use Prim.Native.Nat.{ℕ, _+_, _*_, _≤_}

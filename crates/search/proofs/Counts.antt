@@ -6,7 +6,7 @@ use mathlib.Core.List.{List, []}
 use Prim.Native.Nat.{ℕ, _+_, _*_, _≤_}
 use native.Mathlib.Omega.{arith}
 use lib.ListN.{length, length-append}
-use Rattle.bitset.specs.Set.{members}
+use Rattle.bitset.specs.Inner.Words.{members}
 use Rattle.skiplist.specs.Skip.{Live}
 use Rattle.sweep.specs.declared.Sweep.{Sweep}
 use Rattle.walk.specs.declared.Closed.{Closed}
@@ -14,11 +14,11 @@ use Rattle.walk.specs.declared.Cursor.{Cursor}
 use Rattle.walk.specs.declared.Query.{Query}
 use Rattle.walk.specs.declared.Step.the-variants.{End, Damage, Pass, Visit}
 use Rattle.walk.specs.Visit.{advanceOf, closedRows}
-use Rattle.walk.specs.Sound.{Sound}
+use Rattle.walk.specs.Inner.Sound.{Sound}
 use Rattle.search.specs.declared.Counted.{Counted}
 use Rattle.search.specs.declared.Counting.{Counting}
 use Rattle.search.specs.Found.{joinRows}
-use Rattle.search.specs.Turns.{rowsAfter, countOf, countedWith, countLeft, CountsOn}
+use Rattle.search.specs.Inner.Turns.{rowsAfter, countOf, countedWith, countLeft, CountsOn}
 use Rattle.search.proofs.Matched.{FewIn, closed-few}
 use Rattle.search.proofs.Segments.{rows-end, rows-damage, pass-facts, rows-pass, visit-facts, rows-visit}
 

@@ -9,25 +9,22 @@ use lib.Dec.{eqb, ltb}
 use lib.ListN.{length, length-map}
 use borrow.Author.Tests.{eq-eqb, ne-eqb}
 use Rattle.codec.specs.Area.{part}
-use Rattle.codec.proofs.Areas.{length-part, part-part}
-use Rattle.codec.specs.Number.{le}
-use Rattle.bitset.specs.Set.{emptyWords, insertAll, members}
-use Rattle.bitset.proofs.Set.{Below, members-empty, length-members}
-use Rattle.lift.specs.Record.{codeAt}
-use Rattle.lift.specs.Rows.{codeIn, recordIn}
+use Rattle.codec.proofs.Areas.{length-part}
+use Rattle.bitset.specs.Inner.Words.{emptyWords, insertAll, members, Below}
+use Rattle.bitset.proofs.Set.{members-empty, length-members}
+use Rattle.lift.specs.Rows.{recordIn, inFullPages}
 use Rattle.sweep.specs.declared.Records.{Records}
 use Rattle.sweep.specs.declared.Sweep.{Sweep}
-use Rattle.sweep.specs.Swept.{sweptFrom, Recorded}
+use Rattle.sweep.specs.Inner.Swept.{sweptFrom, Recorded}
 use Rattle.walk.specs.declared.Closed.{Closed}
 use Rattle.walk.specs.declared.Log.{Log}
 use Rattle.walk.specs.declared.Query.{Query}
-use Rattle.walk.specs.Visit.{rowsAt, closedMatches, closedLifts, closedRows, openMatches, openLifts, openRows, firstBuffered}
-use Rattle.walk.specs.Sound.{ClosedSound, closedRecords}
+use Rattle.walk.specs.Visit.{rowsAt, closedMatches, closedLifts, closedRows, openMatches, openLifts, openRows}
+use Rattle.walk.specs.Inner.Sound.{ClosedSound, closedRecords}
 use Rattle.walk.proofs.Emptying.{recorded-at}
 use Rattle.walk.proofs.Matched.{Places, matches-places}
 use Rattle.walk.proofs.Areas.{closed-recorded}
-use Rattle.search.specs.Answers.{rowCodes}
-use Rattle.search.specs.Turns.{rowsIn, countOf, countedWith}
+use Rattle.search.specs.Inner.Turns.{rowsIn, countOf, countedWith}
 use Rattle.search.proofs.Rows.{Wide}
 
 -- at most 320 rows; rows of 32 bytes
@@ -79,7 +76,7 @@ module _ (count : ℕ) (f : ℕ → List ℕ) where
     rows-below none p is = rw (is, members-empty) tt
     rows-below (some ps) p is = rw (is, p .1) (p .0)
 
--- ---- a record's bytes and its load
+-- ---- a record's bytes
 
 module _ (lifts tail : List ℕ) (g : Records) (r : Recorded lifts tail g) (p : ℕ) (h : p < g .count) where
   pub record-size : length (recordIn lifts tail (g .first) p) ≡ 32
@@ -89,20 +86,6 @@ module _ (lifts tail : List ℕ) (g : Records) (r : Recorded lifts tail g) (p : 
       go : (b : Bool) → length (cond b (part lifts (p * 32) 32) (part tail ((p - g .first) * 32) 32)) ≡ 32
       go true = length-part lifts (p * 32) 32 (recorded-at lifts tail g p r h .0)
       go false = length-part tail ((p - g .first) * 32) 32 (recorded-at lifts tail g p r h .1)
-
-  pub record-code : codeAt (recordIn lifts tail (g .first) p) 0 ≡ codeIn lifts tail (g .first) p
-  unfolding recordIn codeIn
-  record-code = go (ltb p (g .first))
-    where
-      go : (b : Bool) → codeAt (cond b (part lifts (p * 32) 32) (part tail ((p - g .first) * 32) 32)) 0
-          ≡ cond b (codeAt lifts (p * 32)) (codeAt tail ((p - g .first) * 32))
-      go true = ap le (part-part lifts (p * 32) 32 8 4 (recorded-at lifts tail g p r h .0) (omega arith))
-      go false = ap le (part-part tail ((p - g .first) * 32) 32 8 4 (recorded-at lifts tail g p r h .1) (omega arith))
-
-pub codes-are : (lifts tail : List ℕ) (g : Records) → Recorded lifts tail g → (ps : List ℕ) → Below (g .count) ps
-    → rowCodes (map (recordIn lifts tail (g .first)) ps) ≡ map (codeIn lifts tail (g .first)) ps
-codes-are lifts tail g r [] b = refl
-codes-are lifts tail g r (p ∷ ps) b = rw (record-code lifts tail g r p (b .0), codes-are lifts tail g r ps (b .1))
 
 -- ---- of a closed segment
 
@@ -156,7 +139,7 @@ module _ (nand nor page : List ℕ) (g : Log) (q : Query) where
 
   pub open-some : (g .count ≡ 0 → ⊥)
       → openRows nand nor page g q
-      ≡ rowsAt (recordIn (openLifts nand g) page (firstBuffered (g .count))) (openMatches nand nor page g q)
+      ≡ rowsAt (recordIn (openLifts nand g) page (inFullPages (g .count))) (openMatches nand nor page g q)
   unfolding openRows
   open-some h = let z = ne-eqb (g .count) 0 h in rw z
 
@@ -164,7 +147,7 @@ module _ (nand nor page : List ℕ) (g : Log) (q : Query) where
     pub open-counted : (total : ℕ) → countedWith total m ≡ countOf total (openRows nand nor page g q)
     open-counted total = rw (open-some h) (rows-counted (g .count) _ m (openMatches nand nor page g q) open-places is total)
 
-    pub open-rows-are : map (recordIn (openLifts nand g) page (firstBuffered (g .count))) (members (m .set .words))
+    pub open-rows-are : map (recordIn (openLifts nand g) page (inFullPages (g .count))) (members (m .set .words))
         ≡ rowsIn (openRows nand nor page g q)
     open-rows-are = rw (open-some h) (rows-are (g .count) _ m (openMatches nand nor page g q) open-places is)
 
@@ -182,8 +165,8 @@ module _ (nand nor page : List ℕ) (g : Log) (q : Query) where
   open-few = go (eqb (g .count) 0)
     where
       go : (b : Bool) → FewIn (cond b (some [])
-          (rowsAt (recordIn (openLifts nand g) page (firstBuffered (g .count))) (openMatches nand nor page g q)))
+          (rowsAt (recordIn (openLifts nand g) page (inFullPages (g .count))) (openMatches nand nor page g q)))
       go true = omega arith
       go false =
-          rows-few (g .count) (recordIn (openLifts nand g) page (firstBuffered (g .count))) (openMatches nand nor page g q)
+          rows-few (g .count) (recordIn (openLifts nand g) page (inFullPages (g .count))) (openMatches nand nor page g q)
           open-places

@@ -21,7 +21,7 @@ use Rattle.walk.specs.declared.Step.{Step}
 use Rattle.walk.specs.declared.Step.the-variants.{End, Damage, Pass, Visit}
 use Rattle.walk.specs.Seek.{headerAt, startOf}
 use Rattle.walk.specs.Visit.{isPassed, cursorAfter, closedOf, advanceOf, closedRows, openRows}
-use Rattle.walk.specs.Sound.{Sound, LogSound}
+use Rattle.walk.specs.Inner.Sound.{Sound, LogSound}
 use Rattle.walk.proofs.Hops.{start-begun}
 use Rattle.walk.proofs.Steps.{StepFacts, step-facts}
 use Rattle.search.specs.Found.{joinRows, rowsFrom, closedFound, foundRows, mostFound}

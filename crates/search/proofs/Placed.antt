@@ -1,24 +1,23 @@
--- A segment's records as the code has them at hand: its areas, its set, how many rows, their bytes and loads. Assumes nothing.
-use mathlib.Core.Path.{_≡_, sym, ap, _∙_}
+-- A segment's records as the code has them at hand: its areas, its set, how many rows and their bytes. Assumes nothing.
+use mathlib.Core.Path.{_≡_}
 use mathlib.Core.List.{List, map}
 use Prim.Native.Nat.{ℕ, _-_, _*_, _≤_}
 use lib.ListN.{length}
 use Rattle.codec.specs.Area.{splice}
-use Rattle.bitset.specs.Set.{emptyWords, members}
-use Rattle.bitset.proofs.Set.{Below}
-use Rattle.lift.specs.Rows.{codeIn, recordIn}
+use Rattle.bitset.specs.Inner.Words.{emptyWords, members, Below}
+use Rattle.lift.specs.Rows.{recordIn}
 use Rattle.sweep.specs.declared.Records.{Records}
 use Rattle.sweep.specs.declared.Sweep.{Sweep}
-use Rattle.sweep.specs.Swept.{sweptFrom, Recorded}
+use Rattle.sweep.specs.Inner.Swept.{sweptFrom, Recorded}
 use Rattle.walk.specs.declared.Closed.{Closed}
 use Rattle.walk.specs.declared.Log.{Log}
 use Rattle.walk.specs.declared.Query.{Query}
 use Rattle.walk.specs.Visit.{closedMatches, closedLifts, closedRows, openMatches, openLifts, openRows}
-use Rattle.walk.specs.Sound.{ClosedSound, LogSound, closedRecords, openRecords}
+use Rattle.walk.specs.Inner.Sound.{ClosedSound, LogSound, closedRecords, openRecords}
 use Rattle.walk.proofs.Areas.{closed-recorded, open-recorded}
-use Rattle.search.specs.Answers.{rowBytes, rowCodes}
-use Rattle.search.specs.Turns.{rowsIn, WrittenUpTo}
-use Rattle.search.proofs.Matched.{codes-are, closed-rows-are, closed-below, open-rows-are, open-below}
+use Rattle.search.specs.Answers.{rowBytes}
+use Rattle.search.specs.Inner.Turns.{rowsIn, WrittenUpTo}
+use Rattle.search.proofs.Matched.{closed-rows-are, closed-below, open-rows-are, open-below}
 use Rattle.search.proofs.Written.{as-many, written-up-to}
 
 -- the rows of a set's places in areas `l` and `tail`
@@ -35,9 +34,6 @@ module _ (l tail : List ℕ) (g : Records) (ps : List ℕ) (rows : List (List �
       → new ≡ splice area ((end - n) * 32) (rowBytes (map (recordIn l tail (g .first)) ps))
       → WrittenUpTo area new rows end (end - n)
   placed-written n e area new end h is = written-up-to (recordIn l tail (g .first)) ps rows (p .are) n e area new end h is
-
-  pub placed-codes : map (codeIn l tail (g .first)) ps ≡ rowCodes rows
-  placed-codes = sym (codes-are l tail g (p .recorded) ps (p .below)) ∙ ap rowCodes (p .are)
 
 pub closed-placed : (nand : List ℕ) (s : Closed) (q : Query) → ClosedSound nand s → (m : Sweep)
     → m ≡ sweptFrom emptyWords (closedMatches nand s q)

@@ -1,6 +1,5 @@
 -- The rows of the closed segments from a cursor on, by its next step: serials fall, so more steps than the serial before change
--- nothing.
--- Assumes nothing.
+-- nothing. Assumes nothing.
 use mathlib.Core.Path.{_≡_, refl, sym, ap, _∙_}
 use mathlib.Core.Option.{Option, none, some}
 use mathlib.Core.List.{List, []}
@@ -15,10 +14,10 @@ use Rattle.walk.specs.declared.Query.{Query}
 use Rattle.walk.specs.declared.Step.{Step}
 use Rattle.walk.specs.declared.Step.the-variants.{End, Damage, Pass, Visit}
 use Rattle.walk.specs.Visit.{advanceOf, closedRows}
-use Rattle.walk.specs.Sound.{Sound, ClosedSound}
+use Rattle.walk.specs.Inner.Sound.{Sound, ClosedSound}
 use Rattle.walk.proofs.Steps.{CursorFacts, StepFacts, step-facts}
 use Rattle.search.specs.Found.{joinRows, rowsFrom}
-use Rattle.search.specs.Turns.{rowsAfter}
+use Rattle.search.specs.Inner.Turns.{rowsAfter}
 use Rattle.search.proofs.Rows.{wide-append}
 use Rattle.search.proofs.Matched.{WideIn, closed-wide}
 

@@ -11,24 +11,23 @@ use Rattle.codec.specs.Area.{splice}
 use Rattle.codec.proofs.Areas.{length-splice, splice-next}
 use Rattle.bitset.specs.declared.Bits.{Bits}
 use Rattle.bitset.specs.declared.Next.{Next}
-use Rattle.bitset.specs.Set.{members}
-use Rattle.bitset.specs.Emptying.{nextOf}
-use Rattle.bitset.proofs.Set.{Below}
+use Rattle.bitset.specs.Inner.Words.{members, Below}
+use Rattle.bitset.specs.Inner.Emptying.{nextOf}
 use Rattle.lift.specs.Rows.{recordIn}
 use Rattle.skiplist.specs.Skip.{Live}
 use Rattle.sweep.specs.declared.Records.{Records}
-use Rattle.sweep.specs.Swept.{Recorded}
+use Rattle.sweep.specs.Inner.Swept.{Recorded}
 use Rattle.walk.specs.declared.Closed.{Closed}
 use Rattle.walk.specs.declared.Cursor.{Cursor}
 use Rattle.walk.specs.declared.Query.{Query}
 use Rattle.walk.specs.declared.Step.the-variants.{End, Damage, Pass, Visit}
 use Rattle.walk.specs.Visit.{advanceOf, closedRows}
-use Rattle.walk.specs.Sound.{Sound}
+use Rattle.walk.specs.Inner.Sound.{Sound}
 use Rattle.walk.proofs.Emptying.{emptied-more, emptied-all, emptied-below}
 use Rattle.search.specs.declared.Writing.{Writing}
 use Rattle.search.specs.Answers.{rowBytes}
 use Rattle.search.specs.Found.{joinRows}
-use Rattle.search.specs.Turns.{rowsAfter, rowsIn, writtenIn, WrittenUpTo, CountIs, writeLeft, WritesOn}
+use Rattle.search.specs.Inner.Turns.{rowsAfter, rowsIn, writtenIn, WrittenUpTo, CountIs, writeLeft, WritesOn}
 use Rattle.search.proofs.Backwards.{backwards, splice-none}
 use Rattle.search.proofs.Counts.{never}
 use Rattle.search.proofs.Matched.{WideIn, record-size, closed-wide}

@@ -1,10 +1,10 @@
 -- What a search finds over all segments (document 01, "Search"): rows "by serial and then position, so oldest first over all
--- segments".
--- Assumes nothing.
+-- segments". Assumes nothing.
 use mathlib.Core.Bool.{cond}
 use mathlib.Core.Option.{Option, none, some}
 use mathlib.Core.List.{List, [], _++_}
 use Prim.Native.Nat.{ℕ, zero, suc, _+_, _*_}
+use Rattle.lift.specs.Rows.{liftsMost}
 use Rattle.skiplist.specs.Skip.{Live}
 use Rattle.walk.specs.declared.Cursor.{Cursor}
 use Rattle.walk.specs.declared.Log.{Log}
@@ -41,4 +41,4 @@ foundRows nand nor page g live q = joinRows (closedFound nand g live q (startOf 
 -- the most rows that are found, whatever the chips hold: 320 for each slot and for the open segment, as damaged pointers can lead into
 -- its slot as well
 abbrev pub mostFound : ℕ → ℕ
-mostFound slots = (slots + 1) * 320
+mostFound slots = (slots + 1) * liftsMost

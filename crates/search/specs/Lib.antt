@@ -1,3 +1,3 @@
 pub mod Found
 pub mod Answers
-pub mod Turns
+pub mod Inner

@@ -11,10 +11,12 @@ ghost use mathlib.Core.Path.{_≡_};
 ghost use mathlib.Core.Bool.{true, false};
 ghost use Prim.Native.Nat.{_+_, _*_, _^_, _<_, _≤_};
 ghost use lib.ListN.{length};
+ghost use Rattle.lift.specs.Rows.{liftsMost};
+ghost use Rattle.flash.specs.Chip.{pageWidth, slotWidth};
 ghost use Rattle.skiplist.specs.Skip.{serialsFrom};
 ghost use Rattle.walk.specs.Visit.{closedRows, openRows};
-ghost use Rattle.walk.specs.Sound.{Sound, Begun, ClosedSound, LogSound};
-ghost use Rattle.search.specs.Turns.{allRows, rowsAfter, countOf, countedWith, CountsOn};
+ghost use Rattle.walk.specs.Inner.Sound.{Sound, Begun, ClosedSound, LogSound};
+ghost use Rattle.search.specs.Inner.Turns.{allRows, rowsAfter, countOf, countedWith, CountsOn};
 
 // A count with the matches of one more segment.
 fn counted_with(total: u64, m: Sweep) -> Counted
@@ -40,7 +42,7 @@ fn counted_with(total: u64, m: Sweep) -> Counted
 // How many the open segment has.
 fn count_open(nand: &[u8], nor: &[u8], page: &[u8], g: Log, q: Query) -> Counted
     requires { ⌜ LogSound (now nand) (now nor) g ⌝ }
-    requires { ⌜ length (now page) ≡ 512 ⌝ }
+    requires { ⌜ length (now page) ≡ pageWidth ⌝ }
     ensures { λ r. ⌜ r ≡ countOf 0 (openRows (now (nand .entry)) (now (nor .entry)) (now (page .entry)) g q) ⌝ }
 {
     if g.count == 0 {
@@ -65,7 +67,7 @@ fn count_one(nand: &[u8], s: Closed, q: Query, total: u64) -> Counted
 
 // One segment on.
 fn count_on(nand: &[u8], slots: u64, oldest: u32, q: Query, r: Counting) -> Counting
-    requires { ⌜ (length (now nand) ≡ slots * 16384) × (1 ≤ q .k1) × (r .n .total + 320 < 2 ^ 64) ⌝ }
+    requires { ⌜ (length (now nand) ≡ slots * slotWidth) × (1 ≤ q .k1) × (r .n .total + 320 < 2 ^ 64) ⌝ }
     requires { ⌜ Sound slots (r .c) ⌝ }
     requires { ⌜ (r .done ≡ false) × (r .n .good ≡ true) ⌝ }
     ensures { λ next. ⌜ CountsOn (now (nand .entry)) slots (serialsFrom oldest) q r next ⌝ }
@@ -105,7 +107,7 @@ fn count_on(nand: &[u8], slots: u64, oldest: u32, q: Query, r: Counting) -> Coun
 
 // How many the closed segments from a cursor on have, with those of the open one.
 fn count_closed(nand: &[u8], slots: u64, oldest: u32, q: Query, c: Cursor, total: u64) -> Counted
-    requires { ⌜ (length (now nand) ≡ slots * 16384) × (1 ≤ q .k1) × (total ≤ 320) ⌝ }
+    requires { ⌜ (length (now nand) ≡ slots * slotWidth) × (1 ≤ q .k1) × (total ≤ liftsMost) ⌝ }
     requires { ⌜ Sound slots c ⌝ }
     ensures { λ r. ⌜ r ≡ countOf total (rowsAfter (now (nand .entry)) slots (serialsFrom oldest) q c) ⌝ }
 {
@@ -127,7 +129,7 @@ fn count_closed(nand: &[u8], slots: u64, oldest: u32, q: Query, c: Cursor, total
 // How many all segments have, the closed ones from a cursor on.
 pub fn count_all(nand: &[u8], nor: &[u8], page: &[u8], g: Log, q: Query, c: Cursor) -> Counted
     requires { ⌜ LogSound (now nand) (now nor) g ⌝ }
-    requires { ⌜ (length (now page) ≡ 512) × (1 ≤ q .k1) ⌝ }
+    requires { ⌜ (length (now page) ≡ pageWidth) × (1 ≤ q .k1) ⌝ }
     requires { ⌜ Begun g c ⌝ }
     ensures { λ r. ⌜ r ≡ countOf 0
         (allRows (now (nand .entry)) (now (nor .entry)) (now (page .entry)) g (serialsFrom (g .oldest)) q c) ⌝ }

@@ -12,23 +12,24 @@ ghost use mathlib.Core.Bool.{false};
 ghost use mathlib.Core.List.{map};
 ghost use Prim.Native.Nat.{_+_, _*_, _≤_};
 ghost use lib.ListN.{length};
+ghost use Rattle.flash.specs.Chip.{pageWidth, slotWidth};
+ghost use Rattle.lift.specs.Record.{recordWidth};
 ghost use Rattle.codec.specs.Area.{splice};
-ghost use Rattle.bitset.specs.Set.{members};
-ghost use Rattle.bitset.proofs.Set.{Below};
+ghost use Rattle.bitset.specs.Inner.Words.{members, Below};
 ghost use Rattle.lift.specs.Rows.{recordIn};
-ghost use Rattle.sweep.specs.Swept.{Recorded};
+ghost use Rattle.sweep.specs.Inner.Swept.{Recorded};
 ghost use Rattle.skiplist.specs.Skip.{serialsFrom};
 ghost use Rattle.walk.specs.Visit.{closedRows, openRows};
-ghost use Rattle.walk.specs.Sound.{Sound, Begun, ClosedSound, LogSound};
+ghost use Rattle.walk.specs.Inner.Sound.{Sound, Begun, ClosedSound, LogSound};
 ghost use Rattle.search.specs.Answers.{rowBytes};
-ghost use Rattle.search.specs.Turns.{allRows, rowsAfter, rowsIn, writtenIn, WrittenUpTo, CountIs, WritesOn};
+ghost use Rattle.search.specs.Inner.Turns.{allRows, rowsAfter, rowsIn, writtenIn, WrittenUpTo, CountIs, WritesOn};
 
 // The records of a set's places go to rows from `row` on, the lowest place first.
 fn put_rows(area: &mut [u8], row: usize, lifts: &[u8], tail: &[u8], g: Records, set: Bits)
     requires { ⌜ Recorded (now lifts) (now tail) g ⌝ }
     requires { ⌜ Below (g .count) (members (set .words)) ⌝ }
-    requires { ⌜ (row + length (members (set .words))) * 32 ≤ length (now area) ⌝ }
-    ensures { λ _. ⌜ now (area .exit) ≡ splice (now (area .entry)) (row * 32)
+    requires { ⌜ (row + length (members (set .words))) * recordWidth ≤ length (now area) ⌝ }
+    ensures { λ _. ⌜ now (area .exit) ≡ splice (now (area .entry)) (row * recordWidth)
         (rowBytes (map (recordIn (now (lifts .entry)) (now (tail .entry)) (g .first)) (members (set .words)))) ⌝ }
 {
     let mut rest = set;
@@ -48,7 +49,7 @@ fn put_rows(area: &mut [u8], row: usize, lifts: &[u8], tail: &[u8], g: Records, 
 // The rows of a closed segment end at row `end`; where they begin.
 fn write_one(area: &mut [u8], nand: &[u8], s: Closed, q: Query, end: u64) -> u64
     requires { ⌜ ClosedSound (now nand) s ⌝ }
-    requires { ⌜ (length (rowsIn (closedRows (now nand) s q)) ≤ end) × (end * 32 ≤ length (now area)) ⌝ }
+    requires { ⌜ (length (rowsIn (closedRows (now nand) s q)) ≤ end) × (end * recordWidth ≤ length (now area)) ⌝ }
     ensures { λ r. ⌜ WrittenUpTo (now (area .entry)) (now (area .exit)) (rowsIn (closedRows (now (nand .entry)) s q)) end r ⌝ }
 {
     let m = walk::closed_matches(nand, s, q);
@@ -71,8 +72,8 @@ fn write_open(
     end: u64,
 ) -> u64
     requires { ⌜ LogSound (now nand) (now nor) g ⌝ }
-    requires { ⌜ length (now page) ≡ 512 ⌝ }
-    requires { ⌜ (length (rowsIn (openRows (now nand) (now nor) (now page) g q)) ≤ end) × (end * 32 ≤ length (now area)) ⌝ }
+    requires { ⌜ length (now page) ≡ pageWidth ⌝ }
+    requires { ⌜ (length (rowsIn (openRows (now nand) (now nor) (now page) g q)) ≤ end) × (end * recordWidth ≤ length (now area)) ⌝ }
     ensures { λ r. ⌜ WrittenUpTo (now (area .entry)) (now (area .exit))
         (rowsIn (openRows (now (nand .entry)) (now (nor .entry)) (now (page .entry)) g q)) end r ⌝ }
 {
@@ -90,7 +91,7 @@ fn write_open(
 
 // One segment on.
 fn write_on(area: &mut [u8], nand: &[u8], slots: u64, oldest: u32, q: Query, w: Writing) -> Writing
-    requires { ⌜ (length (now nand) ≡ slots * 16384) × (1 ≤ q .k1) × (w .row * 32 ≤ length (now area)) ⌝ }
+    requires { ⌜ (length (now nand) ≡ slots * slotWidth) × (1 ≤ q .k1) × (w .row * recordWidth ≤ length (now area)) ⌝ }
     requires { ⌜ Sound slots (w .c) ⌝ }
     requires { ⌜ w .done ≡ false ⌝ }
     requires { ⌜ CountIs (w .row) (rowsAfter (now nand) slots (serialsFrom oldest) q (w .c)) ⌝ }
@@ -128,7 +129,7 @@ fn write_closed(
     c: Cursor,
     row: u64,
 )
-    requires { ⌜ (length (now nand) ≡ slots * 16384) × (1 ≤ q .k1) × (row * 32 ≤ length (now area)) ⌝ }
+    requires { ⌜ (length (now nand) ≡ slots * slotWidth) × (1 ≤ q .k1) × (row * recordWidth ≤ length (now area)) ⌝ }
     requires { ⌜ Sound slots c ⌝ }
     requires { ⌜ CountIs row (rowsAfter (now nand) slots (serialsFrom oldest) q c) ⌝ }
     ensures { λ _. ⌜ now (area .exit)
@@ -160,7 +161,7 @@ pub fn write_all(
     total: u64,
 )
     requires { ⌜ LogSound (now nand) (now nor) g ⌝ }
-    requires { ⌜ (length (now page) ≡ 512) × (1 ≤ q .k1) × (total * 32 ≤ length (now area)) ⌝ }
+    requires { ⌜ (length (now page) ≡ pageWidth) × (1 ≤ q .k1) × (total * recordWidth ≤ length (now area)) ⌝ }
     requires { ⌜ Begun g c ⌝ }
     requires { ⌜ CountIs total (allRows (now nand) (now nor) (now page) g (serialsFrom (g .oldest)) q c) ⌝ }
     ensures { λ _. ⌜ now (area .exit) ≡ writtenIn (now (area .entry))

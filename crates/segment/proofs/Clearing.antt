@@ -7,6 +7,7 @@ use Prim.Native.Nat.{ℕ, zero, suc, _+_, _*_, _≤_, _<_}
 use native.Mathlib.Omega.{arith}
 use lib.ListN.{length}
 use Rattle.codec.specs.Area.{allOnes}
+use Rattle.codec.proofs.Truth.{and-left, and-right}
 use Rattle.flash.specs.Chip.{pageErased, programmed}
 use Rattle.flash.specs.Clears.{OnlyClears}
 use Rattle.flash.proofs.Clearing.{clears-none, clears-trans, clears-page}
@@ -14,7 +15,6 @@ use Rattle.segment.specs.declared.Closing.{Closing}
 use Rattle.segment.specs.Pages.{pageDue, closePage, pageReady, pagesErased, closeErased}
 use Rattle.segment.specs.Pages.{pageProgrammed, pagesProgrammed, closeProgrammed}
 use Rattle.segment.proofs.ClosedPages.{Shaped, length-image, length-one, one-elsewhere}
-use Rattle.segment.proofs.HeaderSound.{and-left, and-right}
 use Rattle.segment.proofs.ImageBytes.{Valued, bytes-image}
 
 module _ (nor : List ℕ) (c : Closing) (shaped : Shaped nor c) (valued : Valued nor c) (slots slot : ℕ) (there : slot < slots) where

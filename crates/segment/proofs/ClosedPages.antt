@@ -13,9 +13,10 @@ use Rattle.flash.specs.Chip.{pageOf, programmed}
 use Rattle.flash.proofs.Pages.{length-programmed, page-programmed, page-elsewhere}
 use Rattle.bloom.proofs.Turns.{length-open-page}
 use Rattle.segment.specs.declared.Closing.{Closing}
-use Rattle.segment.specs.Pages.{pageDue, treePage, closePage, pageProgrammed, pagesProgrammed, closeProgrammed}
+use Rattle.segment.specs.Pages.{pageDue, closePage, pageProgrammed, pagesProgrammed, closeProgrammed}
 use Rattle.segment.proofs.HeaderBytes.{length-header}
 use Rattle.segment.proofs.Turns.{image-lifts, image-tree, image-bloom, image-header}
+use Rattle.segment.proofs.TreeRun.{treeRun}
 
 -- the sizes of what a close is given
 pub record Shaped (nor : List ℕ) (c : Closing) : Type 0 where
@@ -30,8 +31,8 @@ pub record Shaped (nor : List ℕ) (c : Closing) : Type 0 where
 -- ---- lengths
 
 pub length-tree : (nor : List ℕ) (buckets i : ℕ) → i * 512 ≤ length nor → buckets * 128 ≤ length nor
-    → length (treePage nor buckets i) ≡ 512
-unfolding treePage
+    → length (treeRun nor buckets i) ≡ 512
+unfolding treeRun
 length-tree nor buckets i h k =
     let n = min 512 (buckets * 128 - i * 512) in
     length-append (part nor (i * 512) n) (repeated (512 - n) 255)

@@ -20,8 +20,9 @@ use Rattle.skiplist.proofs.Pointers.{length-pointers}
 use Rattle.skiplist.proofs.Nodes.{length-node}
 use Rattle.segment.specs.declared.Closing.{Closing}
 use Rattle.segment.specs.Header.{formBytes, countBytes, spanBytes, headerPage}
-use Rattle.segment.specs.Pages.{treePage}
 use Rattle.segment.proofs.Fields.{putAll, fields-put, front-put}
+use Rattle.segment.specs.Pages.{treePage}
+use Rattle.tree.specs.Place.{treeStart, bucketStart}
 
 pub level-most : (serial : ℕ) → levelOf serial ≤ 4
 unfolding levelOf
@@ -116,10 +117,10 @@ page-put c z h1 h2 h3 level node four el en ez e1 e2 e3 =
 
 -- ---- a tree page
 
-pub tree-put : (nor : List ℕ) (buckets i n : ℕ) (z d p : List ℕ) → i * 4 < buckets → buckets * 128 ≤ length nor
-    → n ≡ min 512 (buckets * 128 - i * 512) → z ≡ repeated 512 255 → p ≡ part nor (i * 512) n → d ≡ splice z 0 p
-    → d ≡ treePage nor buckets i
+pub tree-put : (nor : List ℕ) (buckets p a end n : ℕ) (z d run : List ℕ) → a ≡ treeStart p → end ≡ bucketStart buckets → a < end
+    → end ≤ length nor → n ≡ min 512 (end - a) → z ≡ repeated 512 255 → run ≡ part nor a n → d ≡ splice z 0 run
+    → d ≡ treePage nor buckets p
 unfolding treePage
-tree-put nor buckets i n z d p h k en ez ep ed =
-    let l = length-part nor (i * 512) n (omega arith) in
-    rw (ed, ep, ez, ← en) (front-put 512 255 (part nor (i * 512) n) (omega arith) ∙ rw l)
+tree-put nor buckets p a end n z d run ea ee h k en ez er ed =
+    let l = length-part nor a n (omega arith) in
+    rw (← ea, ← ee, ← en, ed, er, ez) (front-put 512 255 (part nor a n) (omega arith) ∙ rw l)

@@ -7,6 +7,7 @@ use lib.Dec.{leb}
 use lib.ListN.{getD}
 use borrow.Author.Tests.{ltb-true, leb-true}
 use Rattle.codec.specs.Number.{numberAt}
+use Rattle.codec.proofs.Truth.{and-left, and-right}
 use Rattle.lift.specs.Limits.{timeOk}
 use Rattle.form.specs.declared.Form.{Form}
 use Rattle.skiplist.specs.declared.Pointer.{Pointer}
@@ -14,7 +15,6 @@ use Rattle.skiplist.specs.Skip.{none, inSlots}
 use Rattle.skiplist.specs.PointerBytes.{pointersAt}
 use Rattle.segment.specs.declared.Header.{Header}
 use Rattle.segment.specs.Header.{countsGood, pointerGood, pointersGood, formIn, countsIn, spanIn, headerGood, headerIn}
-use Rattle.segment.proofs.HeaderSound.{and-left, and-right}
 
 -- the facts of a count and a number of buckets that are good
 pub record CountFacts (count buckets : ℕ) : Type 0 where

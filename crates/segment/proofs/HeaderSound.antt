@@ -1,14 +1,15 @@
 -- The header of a closing within its limits is read back without damage: each test of the header holds of what was written.
 -- Assumes nothing.
 use mathlib.Core.Path.{_≡_, refl, _∙_}
-use mathlib.Core.Logic.{_⊎_, inl, inr, ⊎-elim}
-use mathlib.Core.Bool.{Bool, true, false, _&&_, _||_}
+use mathlib.Core.Logic.{_⊎_, ⊎-elim}
+use mathlib.Core.Bool.{true}
 use mathlib.Core.List.{List, [], _∷_, _++_}
 use Prim.Native.Nat.{ℕ, zero, suc, _-_, _^_, _≤_, _<_}
 use native.Mathlib.Omega.{arith}
 use lib.Dec.{eqb, ltb}
 use lib.ListN.{length, getD, take, replicate}
 use borrow.Author.Tests.{lt-ltb, le-leb, eq-eqb, ltb-true, leb-true, eqb-true}
+use Rattle.codec.proofs.Truth.{and-both, and-left, and-right, or-cases}
 use Rattle.lift.specs.Limits.{timeOk, timeLimit}
 use Rattle.bloom.specs.Pages.{sectionCount, fragmentLength}
 use Rattle.form.specs.declared.Form.{Form}
@@ -22,22 +23,6 @@ use Rattle.segment.proofs.HeaderRead.{NumbersFit, HeadsFit, headerOf, h
 
 -- ---- both of two tests
 
-and-intro : (a b : Bool) → a ≡ true → b ≡ true → (a && b) ≡ true
-and-intro true b e f = f
-and-intro false b e f = e
-
-pub and-left : (a b : Bool) → (a && b) ≡ true → a ≡ true
-and-left true b e = refl
-and-left false b e = e
-
-pub and-right : (a b : Bool) → (a && b) ≡ true → b ≡ true
-and-right true b e = e
-and-right false b e = cc
-
-or-cases : (a b : Bool) → (a || b) ≡ true → (a ≡ true) ⊎ (b ≡ true)
-or-cases true b e = inl refl
-or-cases false b e = inr e
-
 -- ---- pointers
 
 pub good-append : (slots : ℕ) (ps qs : List Pointer) → pointersGood slots ps ≡ true → pointersGood slots qs ≡ true
@@ -45,7 +30,7 @@ pub good-append : (slots : ℕ) (ps qs : List Pointer) → pointersGood slots ps
 unfolding pointersGood
 good-append slots [] qs e f = f
 good-append slots (p ∷ ps) qs e f =
-    and-intro (pointerGood slots p) (pointersGood slots (ps ++ qs)) (and-left _ _ e)
+    and-both (pointerGood slots p) (pointersGood slots (ps ++ qs)) (and-left _ _ e)
     (good-append slots ps qs (and-right (pointerGood slots p) _ e) f)
 
 good-take : (slots n : ℕ) (ps : List Pointer) → pointersGood slots ps ≡ true → pointersGood slots (take n ps) ≡ true
@@ -53,7 +38,7 @@ unfolding pointersGood
 good-take slots zero ps e = refl
 good-take slots (suc n) [] e = refl
 good-take slots (suc n) (p ∷ ps) e =
-    and-intro (pointerGood slots p) (pointersGood slots (take n ps)) (and-left _ _ e)
+    and-both (pointerGood slots p) (pointersGood slots (take n ps)) (and-left _ _ e)
     (good-take slots n ps (and-right (pointerGood slots p) _ e))
 
 good-none : (slots n : ℕ) → pointersGood slots (replicate n none) ≡ true

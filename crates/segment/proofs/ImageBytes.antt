@@ -20,9 +20,10 @@ use Rattle.skiplist.specs.declared.Pointer.{Pointer}
 use Rattle.skiplist.specs.PointerBytes.{pointerBytes, pointersBytes}
 use Rattle.segment.specs.declared.Closing.{Closing}
 use Rattle.segment.specs.Header.{countBytes, spanBytes, headerPage}
-use Rattle.segment.specs.Pages.{treePage, closePage}
+use Rattle.segment.specs.Pages.{closePage}
 use Rattle.segment.proofs.ClosedPages.{Shaped}
 use Rattle.segment.proofs.Turns.{image-lifts, image-tree, image-bloom, image-header}
+use Rattle.segment.proofs.TreeRun.{treeRun}
 
 -- ---- bytes side by side, a part of them, one value
 
@@ -81,8 +82,8 @@ bytes-header c = both counts (both span (both (pointers _ _) (repeats _ 0 (omega
     span : AreBytes (spanBytes (c .start) (c .end) (c .low) (c .high))
     span = both (number 8 _) (both (number 8 _) (both (number 4 _) (number 4 _)))
 
-pub bytes-tree : (nor : List ℕ) (buckets i : ℕ) → Bytes nor → Bytes (treePage nor buckets i)
-unfolding treePage
+pub bytes-tree : (nor : List ℕ) (buckets i : ℕ) → Bytes nor → Bytes (treeRun nor buckets i)
+unfolding treeRun
 bytes-tree nor buckets i f =
     let n = min 512 (buckets * 128 - i * 512) in
     let front : AreBytes (part nor (i * 512) n) = record { all = bytes-part nor (i * 512) n f } in

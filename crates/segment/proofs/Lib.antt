@@ -11,3 +11,4 @@ pub mod ReadBack
 pub mod LiftsRead
 pub mod ImageBytes
 pub mod Clearing
+pub mod TreeRun

@@ -1,13 +1,13 @@
 -- What a close programmed is read back: header, Bloom sections and tree of the slot, in terms of what the close was given.
 -- Page by page, from page-closed. Assumes nothing.
 use mathlib.Core.Path.{_≡_, sym, ap, _∙_}
-use mathlib.Core.Bool.{true, false, cond, not}
+use mathlib.Core.Bool.{true, false, cond}
 use mathlib.Core.List.{List, _++_}
 use Prim.Native.Nat.{ℕ, suc, _+_, _-_, _*_, _/_, _%_, _≤_, _<_}
 use native.Mathlib.Decide.{decLt}
 use native.Mathlib.Omega.{arith}
 use lib.ListN.{length}
-use borrow.Author.Tests.{lt-ltb, le-ltb}
+use borrow.Author.Tests.{lt-ltb, le-ltb, eq-eqb}
 use Rattle.codec.specs.Area.{part}
 use Rattle.codec.proofs.Areas.{length-part, part-add, part-part, agree-at-parts}
 use Rattle.flash.specs.Chip.{pageStart, pageOf, pagesOf, erasedPage}
@@ -16,11 +16,12 @@ use Rattle.bloom.proofs.Stored.{length-sectionsFrom, length-section}
 use Rattle.bloom.proofs.Pages.{pages-read-back}
 use Rattle.segment.specs.declared.Closing.{Closing}
 use Rattle.segment.specs.Header.{headerPage}
-use Rattle.segment.specs.Pages.{pageDue, treePage, closePage, closeProgrammed}
+use Rattle.segment.specs.Pages.{pageDue, closePage, closeProgrammed}
 use Rattle.segment.proofs.ClosedPages.{Shaped, length-closed, page-closed}
 use Rattle.segment.proofs.Tests.{due-tree}
 use Rattle.segment.proofs.Turns.{image-tree}
 use Rattle.segment.proofs.TreeArea.{treeArea, length-tree-area, area-page, area-bucket, page-past}
+use Rattle.segment.proofs.TreeRun.{treeRun}
 
 -- ---- pages side by side
 
@@ -80,7 +81,7 @@ module _ (nor : List ℕ) (c : Closing) (shaped : Shaped nor c) (slots slot : �
 
   second : 257 ≤ c .count → pageOf closed slot 30 ≡ bloomPage sections 1
   unfolding pageDue closePage
-  second h = page 30 (omega arith) ∙ rw (lt-ltb 256 (c .count) h)
+  second h = page 30 (omega arith) ∙ rw (eq-eqb (sectionCount (c .count)) 5 (omega (arith, shaped .most)))
 
   -- the sections of the open segment are those of the closed one
   pub sections-closed : sectionsIn (pagesOf (closeProgrammed nand nor slot c) slot 29 2) (sectionCount (c .count))
@@ -95,13 +96,13 @@ module _ (nor : List ℕ) (c : Closing) (shaped : Shaped nor c) (slots slot : �
 
   -- ---- tree
 
-  tree-page-due : (i : ℕ) → i < 9 → i * 4 < c .buckets → pageOf closed slot (20 + i) ≡ treePage nor (c .buckets) i
+  tree-page-due : (i : ℕ) → i < 9 → i * 4 < c .buckets → pageOf closed slot (20 + i) ≡ treeRun nor (c .buckets) i
   tree-page-due i h k =
       let d : 20 + i - 20 ≡ i = omega arith in
       let e : pageDue (c .count) (c .buckets) (20 + i) ≡ true =
       sym (due-tree (c .count) (c .buckets) (20 + i) (omega arith) (omega arith))
       ∙ lt-ltb ((20 + i - 20) * 4) (c .buckets) (omega arith) in
-      page (20 + i) (omega arith) ∙ rw e (image-tree nor c (20 + i) (omega arith) (omega arith) ∙ ap (treePage nor (c .buckets)) d)
+      page (20 + i) (omega arith) ∙ rw e (image-tree nor c (20 + i) (omega arith) (omega arith) ∙ ap (treeRun nor (c .buckets)) d)
 
   tree-page-not : (i : ℕ) → i < 9 → c .buckets ≤ i * 4 → pageOf closed slot (20 + i) ≡ pageOf nand slot (20 + i)
   tree-page-not i h k =
@@ -138,7 +139,7 @@ module _ (nor : List ℕ) (c : Closing) (shaped : Shaped nor c) (slots slot : �
       ∙ sym (area-page nor (c .buckets) wide few i h))
     where
       go : 4608 ≤ length nor → c .buckets ≤ 36 → (i : ℕ) → i < 9 → Dec (i * 4 < c .buckets)
-          → pageOf closed slot (20 + i) ≡ treePage nor (c .buckets) i
+          → pageOf closed slot (20 + i) ≡ treeRun nor (c .buckets) i
       go wide few i h (yes k) = tree-page-due i h k
       go wide few i h (no k) =
           tree-page-not i h (omega arith) ∙ blank (20 + i) (omega arith) (omega arith)

@@ -1,6 +1,6 @@
 -- The tests of a header and of a page, as the code makes them, are the definitions'. Assumes nothing.
-use mathlib.Core.Path.{_≡_, refl}
-use mathlib.Core.Bool.{Bool, true, false, not, _&&_, _||_}
+use mathlib.Core.Path.{_≡_, _∙_}
+use mathlib.Core.Bool.{Bool, false, not, _&&_, _||_}
 use mathlib.Core.List.{List, [], _∷_}
 use Prim.Native.Nat.{ℕ, _-_, _*_, _/_, _%_, _≤_, _<_}
 use native.Mathlib.Omega.{arith}
@@ -8,15 +8,17 @@ use lib.Dec.{eqb, leb, ltb}
 use lib.ListN.{length, getD}
 use borrow.Author.Tests.{lt-ltb, le-ltb, le-leb, lt-leb}
 use Rattle.codec.specs.Number.{numberAt}
+use Rattle.codec.proofs.Truth.{and-true}
 use Rattle.lift.specs.Limits.{timeOk, codeOk}
-use Rattle.bloom.specs.Pages.{sectionCount, fragmentLength}
+use Rattle.bloom.specs.Pages.{sectionCount, fragmentLength, fiveSections}
 use Rattle.form.specs.declared.Form.{Form}
 use Rattle.skiplist.specs.declared.Pointer.{Pointer}
 use Rattle.skiplist.specs.Skip.{inSlots}
 use Rattle.skiplist.specs.PointerBytes.{pointersAt}
 use Rattle.segment.specs.declared.Header.{Header}
 use Rattle.segment.specs.Header.{countsGood, spanGood, pointerGood, pointersGood, formIn, countsIn, spanIn, headerGood, headerIn}
-use Rattle.segment.specs.Pages.{pageDue}
+use Rattle.segment.specs.Pages.{holdsBucket, pageDue}
+use Rattle.segment.proofs.TreeRun.{holds-by}
 
 -- ---- counts, span, pointers
 
@@ -39,10 +41,6 @@ pub pointer-tests : (slots : ℕ) (p : Pointer) (a b : Bool) → a ≡ timeOk (p
     → (a && b) ≡ pointerGood slots p
 unfolding pointerGood
 pointer-tests slots p a b e f = rw (e, f)
-
-and-true : (b : Bool) → (b && true) ≡ b
-and-true true = refl
-and-true false = refl
 
 -- four pointers, one after the other
 pub four-pointers : (slots : ℕ) (ps : List Pointer) (e : Pointer) (a b c d : Bool) → length ps ≡ 4
@@ -85,10 +83,13 @@ pub due-lifts : (count buckets p : ℕ) → p < 20 → (not (eqb (count % 16) 0)
 unfolding pageDue
 due-lifts count buckets p h = rw (lt-ltb p 20 h)
 
-pub due-tree : (count buckets p : ℕ) → 20 ≤ p → p < 29 → ltb ((p - 20) * 4) buckets ≡ pageDue count buckets p
+pub due-holds : (count buckets p : ℕ) → 20 ≤ p → p < 29 → holdsBucket buckets p ≡ pageDue count buckets p
 unfolding pageDue
-due-tree count buckets p h k = rw (le-ltb p 20 h, lt-ltb p 29 k)
+due-holds count buckets p h k = rw (le-ltb p 20 h, lt-ltb p 29 k)
 
-pub due-last : (count buckets p : ℕ) → 20 ≤ p → 29 ≤ p → (not (eqb p 30) || ltb 256 count) ≡ pageDue count buckets p
+pub due-tree : (count buckets p : ℕ) → 20 ≤ p → p < 29 → ltb ((p - 20) * 4) buckets ≡ pageDue count buckets p
+due-tree count buckets p h k = holds-by buckets p h ∙ due-holds count buckets p h k
+
+pub due-last : (count buckets p : ℕ) → 20 ≤ p → 29 ≤ p → (not (eqb p 30) || fiveSections count) ≡ pageDue count buckets p
 unfolding pageDue
 due-last count buckets p h k = rw (le-ltb p 20 h, le-ltb p 29 k)

@@ -9,8 +9,8 @@ use lib.Seq.{getD-append-add, ext-getD}
 use Rattle.codec.specs.Area.{part, repeated}
 use Rattle.codec.proofs.Areas.{length-part, getD-part, part-add, part-part, part-append-left, length-repeated, getD-repeated}
 use Rattle.flash.specs.Chip.{norTree, erasedPage}
-use Rattle.segment.specs.Pages.{treePage}
 use Rattle.segment.proofs.ClosedPages.{length-tree}
+use Rattle.segment.proofs.TreeRun.{treeRun}
 
 -- the buckets of a close, and 255 for those that are not used
 unfoldable pub treeArea : List ℕ → ℕ → List ℕ
@@ -35,18 +35,18 @@ module _ (nor : List ℕ) (buckets : ℕ) (room : 4608 ≤ length nor) (few : bu
       ∙ omega (arith, length-part nor 0 (buckets * 128) (omega arith), length-repeated (4608 - buckets * 128) 255)
 
   -- page i of it
-  pub area-page : (i : ℕ) → i < 9 → part (treeArea nor buckets) (i * 512) 512 ≡ treePage nor buckets i
-  unfolding treeArea treePage
+  pub area-page : (i : ℕ) → i < 9 → part (treeArea nor buckets) (i * 512) 512 ≡ treeRun nor buckets i
+  unfolding treeArea treeRun
   area-page i h =
       let l = length-tree-area in
       let p = length-part (treeArea nor buckets) (i * 512) 512 (omega arith) in
       let t = length-tree nor buckets i (omega arith) (omega arith) in
-      ext-getD 0 (part (treeArea nor buckets) (i * 512) 512) (treePage nor buckets i) (p ∙ sym t) (λ j b.
+      ext-getD 0 (part (treeArea nor buckets) (i * 512) 512) (treeRun nor buckets i) (p ∙ sym t) (λ j b.
       let k : j < 512 = omega arith in
       getD-part (treeArea nor buckets) (i * 512) 512 j k ∙ byte j k (decLt (i * 512 + j) (buckets * 128)))
     where
       byte : (j : ℕ) → j < 512 → Dec (i * 512 + j < buckets * 128)
-          → getD (treeArea nor buckets) (i * 512 + j) 0 ≡ getD (treePage nor buckets i) j 0
+          → getD (treeArea nor buckets) (i * 512 + j) 0 ≡ getD (treeRun nor buckets i) j 0
       byte j k (yes l) =
           front-byte nor 0 (buckets * 128) (4608 - buckets * 128) (i * 512 + j) (omega arith) l
           ∙ ap (λ (n : ℕ). getD nor n 0) (omega arith)
@@ -64,8 +64,8 @@ module _ (nor : List ℕ) (buckets : ℕ) (room : 4608 ≤ length nor) (few : bu
       ∙ part-part nor 0 (buckets * 128) (b * 128) 128 (omega arith) (omega arith) ∙ ap (λ (n : ℕ). part nor n 128) (omega arith)
 
   -- a page past the last bucket is 255
-  pub page-past : (i : ℕ) → i < 9 → buckets ≤ i * 4 → treePage nor buckets i ≡ erasedPage
-  unfolding treePage part
+  pub page-past : (i : ℕ) → i < 9 → buckets ≤ i * 4 → treeRun nor buckets i ≡ erasedPage
+  unfolding treeRun part
   page-past i h k =
       let e : buckets * 128 - i * 512 ≡ 0 = omega arith in
       rw e

@@ -12,6 +12,7 @@ use Rattle.segment.specs.declared.Closing.{Closing}
 use Rattle.segment.specs.Header.{headerPage}
 use Rattle.segment.specs.Pages.{pageDue, treePage, closePage, pageReady, pagesErased, pageProgrammed, pagesProgrammed}
 use Rattle.segment.proofs.Tests.{due-tree}
+use Rattle.segment.proofs.TreeRun.{treeRun, tree-run}
 
 -- ---- a page's image
 
@@ -20,9 +21,12 @@ module _ (nor : List ℕ) (c : Closing) (p : ℕ) where
   unfolding closePage
   image-lifts h = rw (lt-ltb p 20 h)
 
-  pub image-tree : 20 ≤ p → p < 29 → closePage nor c p ≡ treePage nor (c .buckets) (p - 20)
+  pub image-page : 20 ≤ p → p < 29 → closePage nor c p ≡ treePage nor (c .buckets) p
   unfolding closePage
-  image-tree h k = rw (le-ltb p 20 h, lt-ltb p 29 k)
+  image-page h k = rw (le-ltb p 20 h, lt-ltb p 29 k)
+
+  pub image-tree : 20 ≤ p → p < 29 → closePage nor c p ≡ treeRun nor (c .buckets) (p - 20)
+  image-tree h k = image-page h k ∙ tree-run nor (c .buckets) p
 
   pub image-bloom : 29 ≤ p → p < 31 → closePage nor c p ≡ bloomPage (sectionsFrom nor (c .bloom) (c .count)) (p - 29)
   unfolding closePage

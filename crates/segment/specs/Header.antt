@@ -3,15 +3,17 @@ use mathlib.Core.Bool.{Bool, true, _&&_}
 use mathlib.Core.List.{List, [], _∷_, _++_}
 use Prim.Native.Nat.{ℕ, _+_, _-_, _*_}
 use lib.Dec.{eqb, leb, ltb}
+use Rattle.tree.specs.Rules.{bucketsMost}
 use Rattle.codec.specs.Area.{repeated}
 use Rattle.codec.specs.Number.{bytes, numberAt}
 use Rattle.lift.specs.Limits.{timeOk, codeOk}
+use Rattle.lift.specs.Rows.{liftsMost}
 use Rattle.bloom.specs.Pages.{sectionCount, fragmentLength}
 use Rattle.form.specs.declared.Form.{Form}
 use Rattle.form.specs.declared.Form.the-variants.{Old, New}
 use Rattle.form.specs.Forms.{byteTen, serialWidth}
 use Rattle.skiplist.specs.declared.Pointer.{Pointer}
-use Rattle.skiplist.specs.Skip.{inSlots, levelOf, nodeOf}
+use Rattle.skiplist.specs.Skip.{inSlots, levelOf, nodeOf, levels}
 use Rattle.skiplist.specs.PointerBytes.{pointersBytes, pointersAt}
 use Rattle.segment.specs.declared.Closing.{Closing}
 use Rattle.segment.specs.declared.Header.{Header}
@@ -30,16 +32,23 @@ countBytes f serial count buckets =
 unfoldable pub spanBytes : ℕ → ℕ → ℕ → ℕ → List ℕ
 spanBytes start end low high = bytes 8 start ++ (bytes 8 end ++ (bytes 4 low ++ bytes 4 high))
 
--- the header page: "four pointers, zeros"
+-- "four pointers, zeros": where the pointers stand, and how many zeros follow
+abbrev pub pointersFrom : ℕ
+pointersFrom = 40
+
+abbrev pub tailWidth : Form → ℕ
+tailWidth f = 432 - levels * serialWidth f
+
+-- the header page
 unfoldable pub headerPage : Closing → List ℕ
 headerPage c =
     countBytes (c .form) (c .serial) (c .count) (c .buckets) ++ (spanBytes (c .start) (c .end) (c .low) (c .high)
-    ++ (pointersBytes (c .form) (nodeOf (c .heads) (levelOf (c .serial))) ++ repeated (432 - 4 * serialWidth (c .form)) 0))
+    ++ (pointersBytes (c .form) (nodeOf (c .heads) (levelOf (c .serial))) ++ repeated (tailWidth (c .form)) 0))
 
 -- count 1 to 320, buckets 1 to 36, sections and L as the count gives
 unfoldable pub countsGood : ℕ → ℕ → ℕ → ℕ → Bool
 countsGood count buckets sections fragment =
-    (leb 1 count && leb count 320) && ((leb 1 buckets && leb buckets 36)
+    (leb 1 count && leb count liftsMost) && ((leb 1 buckets && leb buckets bucketsMost)
     && (eqb sections (sectionCount count) && eqb fragment (fragmentLength (sectionCount count))))
 
 -- times and loads within their limits, start not above end, low not above high
@@ -69,7 +78,7 @@ spanIn h = spanGood (numberAt h 16 8) (numberAt h 24 8) (numberAt h 32 4) (numbe
 -- no damage in the header page h; its serial is below the one before
 unfoldable pub headerGood : Form → List ℕ → ℕ → ℕ → Bool
 headerGood f h slots before =
-    formIn f h && (countsIn h && (spanIn h && (pointersGood slots (pointersAt f h 40) && ltb (numberAt h 0 4) before)))
+    formIn f h && (countsIn h && (spanIn h && (pointersGood slots (pointersAt f h pointersFrom) && ltb (numberAt h 0 4) before)))
 
 -- the header as read
 unfoldable pub headerIn : Form → List ℕ → ℕ → ℕ → Header
@@ -81,5 +90,5 @@ headerIn f h slots before = record {
   start = numberAt h 16 8;
   low = numberAt h 32 4;
   high = numberAt h 36 4;
-  next = pointersAt f h 40;
+  next = pointersAt f h pointersFrom;
 }

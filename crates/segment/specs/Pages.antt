@@ -1,33 +1,40 @@
 -- The pages that a close programs (document 01, "Segments"; "Chips and slots": pages of a slot). Assumes nothing.
 use mathlib.Core.Bool.{Bool, true, cond, not, _&&_, _||_}
 use mathlib.Core.List.{List, _++_}
-use Prim.Native.Nat.{ℕ, zero, suc, _+_, _-_, _*_, _/_, _%_, min}
-use lib.Dec.{eqb, ltb}
+use Prim.Native.Nat.{ℕ, zero, suc, _-_, _/_, _%_, min}
+use lib.Dec.{eqb, leb, ltb}
+use Rattle.lift.specs.Rows.{liftsPerPage}
 use Rattle.codec.specs.Area.{part, repeated}
-use Rattle.flash.specs.Chip.{pageErased, programmed}
-use Rattle.bloom.specs.Pages.{sectionsFrom, bloomPage}
+use Rattle.flash.specs.Chip.{pageErased, programmed, pageWidth, slotPages, treeFirst, bloomFirst, bloomSecond, headerLast}
+use Rattle.bloom.specs.Pages.{sectionsFrom, fiveSections, bloomPage}
+use Rattle.tree.specs.Place.{bucketPage, treeStart, bucketStart}
 use Rattle.segment.specs.declared.Closing.{Closing}
 use Rattle.segment.specs.Header.{headerPage}
 
--- whether a close programs page p: the part-filled lift page, a tree page for every four buckets begun, page 29, page 30
--- "only for five sections", page 31
+-- "20–28 tree": the pages that hold a bucket
+abbrev pub holdsBucket : ℕ → ℕ → Bool
+holdsBucket buckets p = ltb 0 buckets && leb p (bucketPage (buckets - 1))
+
+-- whether a close programs page p: the part-filled lift page, the tree pages that hold a bucket, page 29, page 30 "only for five
+-- sections", page 31
 unfoldable pub pageDue : ℕ → ℕ → ℕ → Bool
 pageDue count buckets p =
-    cond (ltb p 20) (not (eqb (count % 16) 0) && eqb p (count / 16))
-    (cond (ltb p 29) (ltb ((p - 20) * 4) buckets)
-    (not (eqb p 30) || ltb 256 count))
+    cond (ltb p treeFirst) (not (eqb (count % liftsPerPage) 0) && eqb p (count / liftsPerPage))
+    (cond (ltb p bloomFirst) (holdsBucket buckets p)
+    (not (eqb p bloomSecond) || fiveSections count))
 
--- tree page i: "four buckets a page"; "Unused bucket places in a tree page are 255"
+-- tree page p: the buckets in it as they stand in NOR; "Unused bucket places in a tree page are 255"
 unfoldable pub treePage : List ℕ → ℕ → ℕ → List ℕ
-treePage nor buckets i =
-    part nor (i * 512) (min 512 (buckets * 128 - i * 512)) ++ repeated (512 - min 512 (buckets * 128 - i * 512)) 255
+treePage nor buckets p =
+    let n = min pageWidth (bucketStart buckets - treeStart p) in
+    part nor (treeStart p) n ++ repeated (pageWidth - n) 255
 
 -- what a close programs into page p
 unfoldable pub closePage : List ℕ → Closing → ℕ → List ℕ
 closePage nor c p =
-    cond (ltb p 20) (c .page)
-    (cond (ltb p 29) (treePage nor (c .buckets) (p - 20))
-    (cond (ltb p 31) (bloomPage (sectionsFrom nor (c .bloom) (c .count)) (p - 29))
+    cond (ltb p treeFirst) (c .page)
+    (cond (ltb p bloomFirst) (treePage nor (c .buckets) p)
+    (cond (ltb p headerLast) (bloomPage (sectionsFrom nor (c .bloom) (c .count)) (p - bloomFirst))
     (headerPage c)))
 
 -- whether page p is erased if it is due
@@ -50,7 +57,7 @@ pagesProgrammed (suc n) p nand nor slot c = pagesProgrammed n (suc p) (pageProgr
 
 -- the pages of a slot that a close programs are erased, and are programmed
 abbrev pub closeErased : List ℕ → ℕ → ℕ → ℕ → Bool
-closeErased nand slot count buckets = pagesErased 32 0 nand slot count buckets
+closeErased nand slot count buckets = pagesErased slotPages 0 nand slot count buckets
 
 abbrev pub closeProgrammed : List ℕ → List ℕ → ℕ → Closing → List ℕ
-closeProgrammed nand nor slot c = pagesProgrammed 32 0 nand nor slot c
+closeProgrammed nand nor slot c = pagesProgrammed slotPages 0 nand nor slot c

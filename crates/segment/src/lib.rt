@@ -1,32 +1,26 @@
 // A closed segment (document 01, "Segments", "Bloom and skip list"): its header page, and the pages that a close programs.
+use bloom::SECTION_BYTES;
 use flash::PAGE_BYTES;
 use flash::Page;
 use form::Form;
+use skiplist::LEVELS;
 use skiplist::Pointer;
+use tree::Bucket;
 ghost use mathlib.Core.Path.{_≡_};
 ghost use mathlib.Core.Bool.{true};
 ghost use Prim.Native.Nat.{_+_, _*_, _≤_, _<_, min};
 ghost use lib.ListN.{length};
+ghost use Rattle.tree.specs.Rules.{bucketsMost};
+ghost use Rattle.lift.specs.Rows.{liftsMost};
+ghost use Rattle.flash.specs.Chip.{norWidth, pageWidth, slotPages, slotWidth};
 ghost use Rattle.codec.specs.Area.{splice, repeated};
 ghost use Rattle.segment.specs.Header.{formBytes, countBytes, spanBytes, headerPage};
 ghost use Rattle.segment.specs.Header.{countsGood, spanGood, pointerGood, pointersGood, formIn, countsIn, spanIn, headerIn};
-ghost use Rattle.segment.specs.Pages.{pageDue, treePage, closePage, pageReady, pageProgrammed, closeErased, closeProgrammed};
+ghost use Rattle.tree.specs.Place.{bucketStart, treeStart};
+ghost use Rattle.segment.specs.Pages.{holdsBucket, pageDue, treePage, closePage, pageReady, pageProgrammed, closeErased, closeProgrammed};
 
-// A segment has up to 320 lifts and up to 36 buckets.
-pub const LIFTS_MOST: u16 = 320;
-
-pub const BUCKETS_MOST: u8 = 36;
-
-// Pages of a slot: 0–19 lifts, 20–28 tree, 29–30 Bloom, 31 header.
-pub const TREE_PAGE: usize = 20;
-
-pub const BLOOM_PAGE: usize = 29;
-
-pub const HEADER_PAGE: usize = 31;
-
-const SLOT_PAGES: usize = 32;
-
-const BUCKET_BYTES: usize = 128;
+// "page 30 is used only for five sections"
+const FIVE_SECTIONS: usize = 5;
 
 // Where the pointers stand in a header.
 const POINTERS_AT: usize = 40;
@@ -34,28 +28,33 @@ const POINTERS_AT: usize = 40;
 // A header as read; `good` where it has no damage.
 pub struct Header {
     pub good: bool,
+    // serial, count, buckets, start time, low and high load as stored
     pub serial: u32,
     pub count: u16,
     pub buckets: u8,
     pub start: u64,
     pub low: u32,
     pub high: u32,
-    pub next: [Pointer; 4],
+    // the four pointers of its node, level 1 first
+    pub next: [Pointer; LEVELS],
 }
 
 // All that a close needs of the state.
 pub struct Closing {
     pub form: Form,
+    // open serial, count, bucket count
     pub serial: u32,
     pub count: u16,
     pub buckets: u8,
+    // start and end time; low and high load, as stored
     pub start: u64,
     pub end: u64,
     pub low: u32,
     pub high: u32,
-    pub heads: [Pointer; 4],
-    pub page: [u8; 512],
-    pub bloom: [u8; 128],
+    // skip heads, page buffer, Bloom buffer
+    pub heads: [Pointer; LEVELS],
+    pub page: [u8; PAGE_BYTES],
+    pub bloom: [u8; SECTION_BYTES],
 }
 
 // A segment without lifts has no sections, so it is told apart first.
@@ -67,8 +66,8 @@ fn counts_good(count: u16, buckets: u8, sections: u8, fragment: u8) -> bool
     }
     let s = bloom::sections_of(count);
     let l = bloom::fragment_of(s);
-    (count <= LIFTS_MOST)
-        & (((1 <= buckets) & (buckets <= BUCKETS_MOST))
+    (count <= lift::LIFTS_MOST)
+        & (((1 <= buckets) & (buckets <= tree::BUCKETS_MOST))
             & ((sections as usize == s) & (fragment as usize == l)))
 }
 
@@ -87,7 +86,7 @@ fn pointer_good(p: Pointer, slots: u64) -> bool
     lift::time_ok(time) & p.in_slots(slots)
 }
 
-fn pointers_good(p: [Pointer; 4], slots: u64) -> bool
+fn pointers_good(p: [Pointer; LEVELS], slots: u64) -> bool
     ensures { λ r. ⌜ r ≡ pointersGood slots p ⌝ }
 {
     let a = pointer_good(p[0], slots);
@@ -131,7 +130,7 @@ fn form_in(h: &[u8], form: Form) -> bool
 
 // The header page h; its serial is to be below `before`.
 pub fn header_in(h: &[u8], form: Form, slots: u64, before: u32) -> Header
-    requires { ⌜ length (now h) ≡ 512 ⌝ }
+    requires { ⌜ length (now h) ≡ pageWidth ⌝ }
     ensures { λ r. ⌜ r ≡ headerIn form (now (h .entry)) slots before ⌝ }
 {
     let own = form_in(h, form);
@@ -153,16 +152,16 @@ pub fn header_in(h: &[u8], form: Form, slots: u64, before: u32) -> Header
     }
 }
 
-pub fn zeros() -> [u8; 512]
+pub fn zeros() -> [u8; PAGE_BYTES]
     ensures { λ r. ⌜ r ≡ repeated 512 0 ⌝ }
 {
-    [0u8; 512]
+    [0u8; PAGE_BYTES]
 }
 
-fn ones() -> [u8; 512]
+fn ones() -> [u8; PAGE_BYTES]
     ensures { λ r. ⌜ r ≡ repeated 512 255 ⌝ }
 {
-    [255u8; 512]
+    [255u8; PAGE_BYTES]
 }
 
 pub fn put_form(h: &mut [u8], form: Form)
@@ -174,7 +173,7 @@ pub fn put_form(h: &mut [u8], form: Form)
 }
 
 fn put_counts(h: &mut [u8], form: Form, serial: u32, count: u16, buckets: u8)
-    requires { ⌜ (16 ≤ length (now h)) × (1 ≤ count) × (count ≤ 320) ⌝ }
+    requires { ⌜ (16 ≤ length (now h)) × (1 ≤ count) × (count ≤ liftsMost) ⌝ }
     ensures { λ _. ⌜ now (h .exit) ≡ splice (now (h .entry)) 0 (countBytes form serial count buckets) ⌝ }
 {
     let sections = bloom::sections_of(count);
@@ -200,8 +199,8 @@ fn put_span(h: &mut [u8], start: u64, end: u64, low: u32, high: u32)
 }
 
 // Page 31.
-pub fn header_page(c: Closing) -> [u8; 512]
-    requires { ⌜ (1 ≤ c .count) × (c .count ≤ 320) ⌝ }
+pub fn header_page(c: Closing) -> [u8; PAGE_BYTES]
+    requires { ⌜ (1 ≤ c .count) × (c .count ≤ liftsMost) ⌝ }
     ensures { λ r. ⌜ r ≡ headerPage c ⌝ }
 {
     let heads = c.heads;
@@ -222,56 +221,70 @@ fn smaller(a: usize, b: usize) -> usize
     if a <= b { a } else { b }
 }
 
-// Page 20 + i: up to four buckets, the rest 255.
-fn tree_page(nor: &[u8], buckets: u8, i: usize) -> [u8; 512]
-    requires { ⌜ (i * 4 < buckets) × (buckets * 128 ≤ length (now nor)) ⌝ }
-    ensures { λ r. ⌜ r ≡ treePage (now (nor .entry)) buckets i ⌝ }
+// Tree page p: its buckets, the rest 255.
+fn tree_page(nor: &[u8], buckets: u8, p: usize) -> [u8; PAGE_BYTES]
+    requires { ⌜ (20 ≤ p) × (p < 29) × (treeStart p < bucketStart buckets) × (bucketStart buckets ≤ length (now nor)) ⌝ }
+    ensures { λ r. ⌜ r ≡ treePage (now (nor .entry)) buckets p ⌝ }
 {
     let mut d = ones();
-    let a = i * PAGE_BYTES;
-    let n = smaller(PAGE_BYTES, (buckets as usize) * BUCKET_BYTES - a);
+    let a = tree::page_start(Page(p));
+    let end = tree::start_of(Bucket(buckets));
+    let n = smaller(PAGE_BYTES, end - a);
     let e = a + n;
     codec::copy(&mut d, 0, &nor[a..e]);
     d
 }
 
+// The last bucket's page is p or a later one.
+fn holds_bucket(buckets: u8, p: usize) -> bool
+    ensures { λ r. ⌜ r ≡ holdsBucket buckets p ⌝ }
+{
+    if buckets == 0 {
+        return false;
+    }
+    let last = tree::place_of(Bucket(buckets - 1));
+    let page = last.page;
+    p <= page.0
+}
+
 // Whether a close programs page p: the part-filled lift page, the tree pages that hold a bucket, page 29, page 30 for five
-// sections (more than 256 lifts), page 31.
+// sections, page 31.
 pub fn is_due(count: u16, buckets: u8, p: usize) -> bool
     ensures { λ r. ⌜ r ≡ pageDue count buckets p ⌝ }
 {
-    if p < TREE_PAGE {
+    if p < flash::TREE_FIRST {
         let n = count as usize;
-        return !(n % 16 == 0) & (p == n / 16);
+        return !(n % lift::LIFTS_PER_PAGE == 0) & (p == n / lift::LIFTS_PER_PAGE);
     }
-    if p < BLOOM_PAGE {
-        return (p - TREE_PAGE) * 4 < buckets as usize;
+    if p < flash::BLOOM_FIRST {
+        return holds_bucket(buckets, p);
     }
-    !(p == 30) | (256 < count)
+    let sections = bloom::sections_of(count);
+    !(p == flash::BLOOM_SECOND) | (sections == FIVE_SECTIONS)
 }
 
 // What a close programs into page p.
-pub fn page_image(nor: &[u8], c: Closing, p: usize) -> [u8; 512]
-    requires { ⌜ (length (now nor) ≡ 6144) × (p < 32) × (1 ≤ c .count) × (c .count ≤ 320) × (c .buckets ≤ 36)
+pub fn page_image(nor: &[u8], c: Closing, p: usize) -> [u8; PAGE_BYTES]
+    requires { ⌜ (length (now nor) ≡ norWidth) × (p < slotPages) × (1 ≤ c .count) × (c .count ≤ liftsMost) × (c .buckets ≤ bucketsMost)
         × (pageDue (c .count) (c .buckets) p ≡ true) ⌝ }
     ensures { λ r. ⌜ r ≡ closePage (now (nor .entry)) c p ⌝ }
 {
-    if p < TREE_PAGE {
+    if p < flash::TREE_FIRST {
         return c.page;
     }
-    if p < BLOOM_PAGE {
-        return tree_page(nor, c.buckets, p - TREE_PAGE);
+    if p < flash::BLOOM_FIRST {
+        return tree_page(nor, c.buckets, p);
     }
-    if p < HEADER_PAGE {
+    if p < flash::HEADER_LAST {
         let buffer = c.bloom;
-        return bloom::bloom_page(nor, buffer, c.count, p - BLOOM_PAGE);
+        return bloom::bloom_page(nor, buffer, c.count, p - flash::BLOOM_FIRST);
     }
     header_page(c)
 }
 
 // Page p need not be programmed, or is erased.
 fn is_ready(nand: &[u8], slot: usize, count: u16, buckets: u8, p: usize) -> bool
-    requires { ⌜ (slot * 16384 + 16384 ≤ length (now nand)) × (p < 32) ⌝ }
+    requires { ⌜ (slot * slotWidth + slotWidth ≤ length (now nand)) × (p < slotPages) ⌝ }
     ensures { λ r. ⌜ r ≡ pageReady (now (nand .entry)) slot count buckets p ⌝ }
 {
     if is_due(count, buckets, p) {
@@ -282,11 +295,11 @@ fn is_ready(nand: &[u8], slot: usize, count: u16, buckets: u8, p: usize) -> bool
 
 // Whether all pages that a close programs are erased.
 pub fn pages_erased(nand: &[u8], slot: usize, count: u16, buckets: u8) -> bool
-    requires { ⌜ slot * 16384 + 16384 ≤ length (now nand) ⌝ }
+    requires { ⌜ slot * slotWidth + slotWidth ≤ length (now nand) ⌝ }
     ensures { λ r. ⌜ r ≡ closeErased (now (nand .entry)) slot count buckets ⌝ }
 {
     let mut p: usize = 0;
-    while p < SLOT_PAGES {
+    while p < flash::SLOT_PAGES {
         if !is_ready(nand, slot, count, buckets, p) {
             return false;
         }
@@ -297,8 +310,8 @@ pub fn pages_erased(nand: &[u8], slot: usize, count: u16, buckets: u8) -> bool
 
 // Page p is programmed if it is due.
 fn program_page(nand: &mut [u8], nor: &[u8], slot: usize, c: Closing, p: usize)
-    requires { ⌜ (slot * 16384 + 16384 ≤ length (now nand)) × (length (now nor) ≡ 6144) × (p < 32)
-        × (1 ≤ c .count) × (c .count ≤ 320) × (c .buckets ≤ 36) ⌝ }
+    requires { ⌜ (slot * slotWidth + slotWidth ≤ length (now nand)) × (length (now nor) ≡ norWidth) × (p < slotPages)
+        × (1 ≤ c .count) × (c .count ≤ liftsMost) × (c .buckets ≤ bucketsMost) ⌝ }
     ensures { λ _. ⌜ now (nand .exit) ≡ pageProgrammed (now (nand .entry)) (now (nor .entry)) slot c p ⌝ }
 {
     if is_due(c.count, c.buckets, p) {
@@ -309,12 +322,12 @@ fn program_page(nand: &mut [u8], nor: &[u8], slot: usize, c: Closing, p: usize)
 
 // The close's programs, in rising page order.
 pub fn program_pages(nand: &mut [u8], nor: &[u8], slot: usize, c: Closing)
-    requires { ⌜ (slot * 16384 + 16384 ≤ length (now nand)) × (length (now nor) ≡ 6144)
-        × (1 ≤ c .count) × (c .count ≤ 320) × (c .buckets ≤ 36) ⌝ }
+    requires { ⌜ (slot * slotWidth + slotWidth ≤ length (now nand)) × (length (now nor) ≡ norWidth)
+        × (1 ≤ c .count) × (c .count ≤ liftsMost) × (c .buckets ≤ bucketsMost) ⌝ }
     ensures { λ _. ⌜ now (nand .exit) ≡ closeProgrammed (now (nand .entry)) (now (nor .entry)) slot c ⌝ }
 {
     let mut p: usize = 0;
-    while p < SLOT_PAGES {
+    while p < flash::SLOT_PAGES {
         program_page(nand, nor, slot, c, p);
         p += 1;
     }

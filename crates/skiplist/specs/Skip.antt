@@ -19,12 +19,15 @@ abbrev pub pointing : Form → ℕ → ℕ → ℕ → Pointer
 pointing f slot serial time = pointer slot (serialIn f serial) time
 
 -- none is slot 65,535, serial 0, time 0
+abbrev pub noSlot : ℕ
+noSlot = 65535
+
 abbrev pub none : Pointer
-none = pointer 65535 0 0
+none = pointer noSlot 0 0
 
 -- a pointer is none by its slot alone
 abbrev pub isNone : Pointer → Bool
-isNone p = eqb (p .slot) 65535
+isNone p = eqb (p .slot) noSlot
 
 -- what liveness goes by: the start time in form 0, the serial in form 1
 abbrev pub ageOf : Form → Pointer → ℕ
@@ -44,18 +47,26 @@ serialsFrom oldest = record { form = New; oldest = oldest }
 abbrev pub isLive : Pointer → Live → Bool
 isLive p live = not (isNone p) && leb (live .oldest) (ageOf (live .form) p)
 
--- its slot is below S, or 65,535 for none
+-- its slot is below S, or it is none
 abbrev pub inSlots : Pointer → ℕ → Bool
 inSlots p slots = isNone p || ltb (p .slot) slots
 
+-- "four skip heads"
+abbrev pub levels : ℕ
+levels = 4
+
 -- a segment's level: 1 plus the trailing zero bits of its serial, at most 4
 unfoldable pub levelOf : ℕ → ℕ
-levelOf serial = min 4 (1 + trailingZeros 32 serial)
+levelOf serial = min levels (1 + trailingZeros 32 serial)
 
 -- its node copies that many heads, the others none
 unfoldable pub nodeOf : List Pointer → ℕ → List Pointer
-nodeOf heads level = take level heads ++ replicate (4 - level) none
+nodeOf heads level = take level heads ++ replicate (levels - level) none
 
 -- those heads then point to it
 unfoldable pub headsAfter : List Pointer → ℕ → Pointer → List Pointer
 headsAfter heads level p = replicate level p ++ drop level heads
+
+-- the heads at first: all none
+abbrev pub noHeads : List Pointer
+noHeads = replicate levels none

@@ -1,16 +1,22 @@
 // Skip pointers: the slot, the serial and the start time of a closed segment (document 01, "Bloom and skip list").
 use form::Form;
 ghost use mathlib.Core.Path.{_≡_};
-ghost use mathlib.Core.Bool.{_&&_};
-ghost use Prim.Native.Nat.{ℕ, _+_, _*_, _≤_, _<_};
-ghost use lib.ListN.{length, getD, replicate};
+ghost use Prim.Native.Nat.{_+_, _*_, _≤_, _<_};
+ghost use lib.ListN.{length};
 ghost use Rattle.codec.specs.Area.{splice};
 ghost use Rattle.form.specs.Forms.{pointerWidth};
 ghost use Rattle.form.specs.declared.Form.the-variants.{Old, New};
-ghost use Rattle.skiplist.specs.Skip.{pointer, none, isNone, serialsFrom, isLive, inSlots, levelOf, nodeOf, headsAfter};
+ghost use Rattle.skiplist.specs.Skip.{levels, noHeads, pointer, isNone, serialsFrom, isLive, inSlots, levelOf, nodeOf, headsAfter};
 ghost use Rattle.skiplist.specs.PointerBytes.{pointerBytes, pointersBytes, pointerAt, pointersAt};
 
+// "four skip heads"
+pub const LEVELS: usize = 4;
+
+// "none is slot 65,535"
+const NO_SLOT: u16 = 65535;
+
 pub struct Pointer {
+    // the slot of a closed segment, 65,535 for none; its serial; its start time
     pub slot: u16,
     pub serial: u32,
     pub time: u64,
@@ -18,7 +24,7 @@ pub struct Pointer {
 
 impl Pointer {
     pub const NONE: Pointer = Pointer {
-        slot: 65535,
+        slot: NO_SLOT,
         serial: 0,
         time: 0,
     };
@@ -36,47 +42,47 @@ impl Pointer {
     pub fn is_none(self) -> bool
         ensures { λ r. ⌜ r ≡ isNone self ⌝ }
     {
-        self.slot == 65535
+        self.slot == NO_SLOT
     }
 
     // Live: not none, and its serial not below the oldest retained one.
     pub fn is_live(self, oldest: u32) -> bool
         ensures { λ r. ⌜ r ≡ isLive self (serialsFrom oldest) ⌝ }
     {
-        !(self.slot == 65535) & (oldest <= self.serial)
+        !self.is_none() & (oldest <= self.serial)
     }
 
     // Its slot is below S, or it is none.
     pub fn in_slots(self, slots: u64) -> bool
         ensures { λ r. ⌜ r ≡ inSlots self slots ⌝ }
     {
-        (self.slot == 65535) | ((self.slot as u64) < slots)
+        self.is_none() | ((self.slot as u64) < slots)
     }
 }
 
-// A segment's level, 1 to 4.
+// A segment's level, from 1 on.
 pub fn level_of(serial: u32) -> usize
-    ensures { λ r. ⌜ (r ≡ levelOf serial) × (1 ≤ r) × (r ≤ 4) ⌝ }
+    ensures { λ r. ⌜ (r ≡ levelOf serial) × (1 ≤ r) × (r ≤ levels) ⌝ }
 {
     let n = 1 + u32::trailing_zeros(serial) as usize;
-    if n <= 4 { n } else { 4 }
+    if n <= LEVELS { n } else { LEVELS }
 }
 
-pub fn no_heads() -> [Pointer; 4]
-    ensures { λ r. ⌜ r ≡ replicate 4 none ⌝ }
+pub fn no_heads() -> [Pointer; LEVELS]
+    ensures { λ r. ⌜ r ≡ noHeads ⌝ }
 {
     let none = Pointer::NONE;
-    [none; 4]
+    [none; LEVELS]
 }
 
 // The first `level` heads, the others none.
-pub fn node_of(heads: [Pointer; 4], level: usize) -> [Pointer; 4]
-    requires { ⌜ level ≤ 4 ⌝ }
+pub fn node_of(heads: [Pointer; LEVELS], level: usize) -> [Pointer; LEVELS]
+    requires { ⌜ level ≤ levels ⌝ }
     ensures { λ r. ⌜ r ≡ nodeOf heads level ⌝ }
 {
     let mut n = heads;
     let mut i = level;
-    while i < 4 {
+    while i < LEVELS {
         n[i] = Pointer::NONE;
         i += 1;
     }
@@ -84,8 +90,8 @@ pub fn node_of(heads: [Pointer; 4], level: usize) -> [Pointer; 4]
 }
 
 // The first `level` heads point to the new segment.
-pub fn heads_after(heads: [Pointer; 4], level: usize, p: Pointer) -> [Pointer; 4]
-    requires { ⌜ level ≤ 4 ⌝ }
+pub fn heads_after(heads: [Pointer; LEVELS], level: usize, p: Pointer) -> [Pointer; LEVELS]
+    requires { ⌜ level ≤ levels ⌝ }
     ensures { λ r. ⌜ r ≡ headsAfter heads level p ⌝ }
 {
     let mut n = heads;
@@ -126,8 +132,8 @@ fn new_pointer_at(s: &[u8], at: usize) -> Pointer
     Pointer::new(slot, serial, time)
 }
 
-pub fn pointers_at(s: &[u8], at: usize, form: Form) -> [Pointer; 4]
-    requires { ⌜ at + 4 * pointerWidth form ≤ length (now s) ⌝ }
+pub fn pointers_at(s: &[u8], at: usize, form: Form) -> [Pointer; LEVELS]
+    requires { ⌜ at + levels * pointerWidth form ≤ length (now s) ⌝ }
     ensures { λ r. ⌜ r ≡ pointersAt form (now (s .entry)) at ⌝ }
 {
     let n = form::pointer_bytes(form);
@@ -165,8 +171,8 @@ fn put_new_pointer(s: &mut [u8], at: usize, p: Pointer)
     codec::put_u64(s, at + 6, p.time);
 }
 
-pub fn put_pointers(s: &mut [u8], at: usize, p: [Pointer; 4], form: Form)
-    requires { ⌜ at + 4 * pointerWidth form ≤ length (now s) ⌝ }
+pub fn put_pointers(s: &mut [u8], at: usize, p: [Pointer; LEVELS], form: Form)
+    requires { ⌜ at + levels * pointerWidth form ≤ length (now s) ⌝ }
     ensures { λ _. ⌜ now (s .exit) ≡ splice (now (s .entry)) at (pointersBytes form p) ⌝ }
 {
     let n = form::pointer_bytes(form);

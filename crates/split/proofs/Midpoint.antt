@@ -9,7 +9,7 @@ use Rattle.lift.specs.Limits.{stored, loadOf}
 use Rattle.lift.proofs.Differences as D
 use Rattle.lift.proofs.Codes.{stored-shifted}
 use Rattle.split.specs.Split.{bring, mid, sum, slope, low, high, midpoint}
-use Rattle.split.specs.Work.{valueOf, Predicts}
+use Rattle.split.specs.Inner.Work.{valueOf, Predicts}
 use Rattle.split.proofs.Offset.{bring-within}
 
 brought-within : (x y : ℕ) → x < y → (m : ℤ)

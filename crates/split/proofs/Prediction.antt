@@ -12,7 +12,7 @@ use lib.Signed.{shrZ}
 use Rattle.lift.specs.Limits.{loadOf}
 use Rattle.lift.proofs.Differences as D
 use Rattle.split.specs.Split.{minZ, maxZ, ceilDiv, sum, weighed, slope, fitted, lowFrom, highFrom}
-use Rattle.split.specs.Work.{Predicts}
+use Rattle.split.specs.Inner.Work.{Predicts}
 use Rattle.split.proofs.Offset.{min-of, max-of}
 
 -- ---- the two sums of the loop

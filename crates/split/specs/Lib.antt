@@ -1,2 +1,2 @@
 pub mod Split
-pub mod Work
+pub mod Inner

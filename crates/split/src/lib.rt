@@ -1,13 +1,14 @@
 // Where a full bucket is split (document 01, "Tree"): the prediction, the overlap's case, the midpoint rule, the clamp.
 // The work is on the load and 3,000,000, so that no number is below 0; a stored load is that less 2,949,999.
+use lift::LOADS_KEPT;
 ghost use mathlib.Core.Path.{_≡_};
 ghost use mathlib.Core.List.{map};
 ghost use Prim.Native.Nat.{ℕ, _+_, _*_, _/_, _<_, _≤_, min, max};
 ghost use lib.IntN.{subℕ};
 ghost use lib.ListN.{getD};
-ghost use Rattle.lift.specs.Limits.{loadOf};
+ghost use Rattle.lift.specs.Limits.{loadOf, codeMost, loadsKept};
 ghost use Rattle.split.specs.Split as Split;
-ghost use Rattle.split.specs.Work.{valueOf, Predicts, Small};
+ghost use Rattle.split.specs.Inner.Work.{valueOf, Predicts, Small};
 
 // 182 × 3,000,000 less 14 × 13 × 50,001: the offset of 182 fitted values over sums of 13 stored loads.
 const FITTED_OFFSET: u64 = 536899818;
@@ -111,7 +112,7 @@ fn wide(x: u32) -> u64
 
 // A weight times a stored load.
 fn times(i: usize, y: u64) -> u64
-    requires { ⌜ (i ≤ 12) × (y ≤ 150001) ⌝ }
+    requires { ⌜ (i ≤ 12) × (y ≤ codeMost) ⌝ }
     ensures { λ r. ⌜ (r ≡ i * y) × (r ≤ 1800012) ⌝ }
 {
     (i as u64) * y
@@ -129,8 +130,8 @@ fn fit(a: u64, w: u64) -> Predicted
     Predicted { l, h }
 }
 
-fn predict(loads: [u32; 13]) -> Predicted
-    requires { ⌜ ((k : ℕ) → k < 13 → getD loads k 0 ≤ 150001) ⌝ }
+fn predict(loads: [u32; LOADS_KEPT]) -> Predicted
+    requires { ⌜ ((k : ℕ) → k < loadsKept → getD loads k 0 ≤ codeMost) ⌝ }
     ensures { λ r. ⌜ Predicts (Split.sum (map loadOf loads)) (Split.slope (map loadOf loads)) (r .l) (r .h) ⌝ }
 {
     let mut a: u64 = 0;
@@ -146,9 +147,9 @@ fn predict(loads: [u32; 13]) -> Predicted
 }
 
 // The mid of a full bucket with range (x, y], from the 13 loads before the new one, all as stored.
-pub fn mid_of(x: u32, y: u32, loads: [u32; 13]) -> u32
-    requires { ⌜ (x < y) × (y ≤ 150001) ⌝ }
-    requires { ⌜ ((k : ℕ) → k < 13 → getD loads k 0 ≤ 150001) ⌝ }
+pub fn mid_of(x: u32, y: u32, loads: [u32; LOADS_KEPT]) -> u32
+    requires { ⌜ (x < y) × (y ≤ codeMost) ⌝ }
+    requires { ⌜ ((k : ℕ) → k < loadsKept → getD loads k 0 ≤ codeMost) ⌝ }
     ensures is { λ r. ⌜ r ≡ Split.midpoint x y loads ⌝ }
     ensures within { λ r. ⌜ (x < r) × (r ≤ y) ⌝ }
 {

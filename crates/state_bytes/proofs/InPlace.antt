@@ -21,11 +21,12 @@ use Rattle.form.specs.declared.Form.the-variants.{New}
 use Rattle.skiplist.specs.declared.Pointer.{Pointer}
 use Rattle.skiplist.specs.PointerBytes.{pointersAt}
 use Rattle.store.specs.declared.State.{State}
-use Rattle.store.specs.Pieces.{stateGiven}
+use Rattle.store.specs.World.{stateGiven}
 use Rattle.state_bytes.specs.declared.Counters.{Counters}
 use Rattle.state_bytes.specs.declared.Span.{Span}
 use Rattle.state_bytes.specs.Signed.{loadAt, loadsAt}
-use Rattle.state_bytes.specs.StateBytes.{countersOf, spanOf, fieldsBytes, stateBytes, stateAs, stateIn, withLift}
+use Rattle.state_bytes.specs.StateBytes.{stateBytes, stateAs, stateIn}
+use Rattle.state_bytes.specs.Inner.Fields.{countersOf, spanOf, fieldsBytes, withLift}
 use Rattle.state_bytes.proofs.Writing.{fields-flat, same-fields}
 
 -- a write inside a part
@@ -49,7 +50,7 @@ part-with s at n o q h k =
 
 module _ (b : List ℕ) (time : ℕ) (load : ℤ) (buckets : ℕ) (page section : List ℕ) where
   abbrev given : State
-  given = stateGiven (stateIn b) time load buckets page section
+  given = stateGiven (stateIn b) time load time buckets page section
 
   pub counters-made : (oldest current count : ℕ) → oldest ≡ numberAt b 0 4 → current ≡ numberAt b 4 4 → count ≡ numberAt b 8 2
       → _≡_ {A = Counters} (record {
@@ -72,8 +73,8 @@ module _ (b : List ℕ) (time : ℕ) (load : ℤ) (buckets : ℕ) (page section 
 pub lift-made : (b b1 b2 : List ℕ) (time code : ℕ) (load : ℤ) (note : List ℕ) (buckets n : ℕ) (c : Counters) (heads : List Pointer)
     (loads : List ℤ) (section : List ℕ) (span : Span) → length b ≡ 783 → length note ≡ 20 → n ≡ numberAt b 8 2
     → heads ≡ pointersAt New b 19 → loads ≡ pushed (loadsAt b 75 13) n load → section ≡ noted (part b 639 128) code
-    → ((page s : List ℕ) → c ≡ countersOf (stateGiven (stateIn b) time load buckets page s))
-    → ((page s : List ℕ) → span ≡ spanOf (stateGiven (stateIn b) time load buckets page s))
+    → ((page s : List ℕ) → c ≡ countersOf (stateGiven (stateIn b) time load time buckets page s))
+    → ((page s : List ℕ) → span ≡ spanOf (stateGiven (stateIn b) time load time buckets page s))
     → b1 ≡ splice b (127 + n % 16 * 32) (recordBytes time code note)
     → b2 ≡ fieldsBytes New (part b1 19 0) c heads loads (part b1 127 512) section span
     → b2 ≡ stateBytes (withLift (stateIn b) time code load note buckets)

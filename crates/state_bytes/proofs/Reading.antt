@@ -1,13 +1,11 @@
 -- The state is read from its bytes field by field, and read back from what was written. Assumes nothing.
 use mathlib.Core.Path.{_≡_, refl, sym, ap, ap₂, _∙_}
 use mathlib.Core.List.{List, [], _∷_, _++_, append-nil, append-assoc}
-use Prim.Native.Nat.{ℕ, suc, _+_, _*_, _^_, _≤_, _<_}
+use Prim.Native.Nat.{ℕ, zero, suc, _+_, _*_, _^_, _≤_, _<_}
 use native.Mathlib.Omega.{arith}
 use lib.IntN.{ℤ, pos}
 use lib.ListN.{length, getD, length-append}
 use lib.Signed.{mag}
-use mir.Syntax.{w32}
-use mir.Val.{toZ, ofZ}
 use Rattle.codec.specs.Area.{part}
 use Rattle.codec.specs.Number.{le, bytes, numberAt}
 use Rattle.codec.proofs.Areas.{part-part, part-append-left, part-append-right, part-all}
@@ -24,7 +22,7 @@ use Rattle.store.specs.declared.State.{State}
 use Rattle.state_bytes.specs.Signed.{signed, unsigned, sideBySide, loadBytes, loadsBytes, loadAt, loadsAt}
 use Rattle.state_bytes.specs.StateBytes.{liveWidth, headsFrom, loadsFrom, areaLength}
 use Rattle.state_bytes.specs.StateBytes.{bytesIn, stateBytes, oldStateBytes, stateAs, stateIn, oldStateIn}
-use Rattle.state_bytes.proofs.Signs.{read-back, signed-unsigned, unsigned-fits}
+use Rattle.state_bytes.proofs.Signs.{signed-unsigned, unsigned-fits}
 use Rattle.state_bytes.proofs.Writing.{length-load, length-loads, heads-length}
 
 -- a state whose every field is what stands in the area
@@ -44,13 +42,19 @@ old-read b s live e f = rw (e, f)
 
 -- ---- loads side by side
 
--- load i of those from `at`, before the others
-pub next-load : (s : List ℕ) (at i n to : ℕ) {z : ℤ} {zs : List ℤ} → at + 4 * i ≡ to → mag z < 2 ^ 31 → z ≡ loadAt s to
-    → zs ≡ loadsAt s (at + 4 * suc i) n → toZ w32 (ofZ w32 z) ∷ zs ≡ loadsAt s (at + 4 * i) (suc n)
+pub length-loads-at : (s : List ℕ) (at n : ℕ) → length (loadsAt s at n) ≡ n
 unfolding loadsAt
-next-load s at i n to {z} p h e q =
-    let r : at + 4 * suc i ≡ at + 4 * i + 4 = omega arith in
-    ap₂ _∷_ (read-back z _ h (e ∙ ap (loadAt s) (sym p))) (q ∙ ap (λ (k : ℕ). loadsAt s k n) r)
+length-loads-at s at zero = refl
+length-loads-at s at (suc n) = ap suc (length-loads-at s (at + 4) n)
+
+-- load i of those from `at`
+pub load-among : (s : List ℕ) (at n i : ℕ) (d : ℤ) → i < n → getD (loadsAt s at n) i d ≡ loadAt s (at + 4 * i)
+unfolding loadsAt
+load-among s at zero i d h = absurd (omega arith)
+load-among s at (suc n) zero d h = let e : at ≡ at + 4 * 0 = omega arith in ap (loadAt s) e
+load-among s at (suc n) (suc i) d h =
+    let e : at + 4 + 4 * i ≡ at + 4 * suc i = omega arith in
+    load-among s (at + 4) n i d (omega arith) ∙ ap (loadAt s) e
 
 load-read : (s : List ℕ) (at : ℕ) (z : ℤ) → mag z < 2 ^ 31 → part s at 4 ≡ loadBytes z → loadAt s at ≡ z
 unfolding loadAt loadBytes

@@ -23,7 +23,8 @@ use Rattle.state_bytes.proofs.SideBySide.{more, length-side}
 use Rattle.state_bytes.specs.declared.Counters.{Counters}
 use Rattle.state_bytes.specs.declared.Span.{Span}
 use Rattle.state_bytes.specs.StateBytes.{liveWidth, headsFrom, loadsFrom, areaLength}
-use Rattle.state_bytes.specs.StateBytes.{countersOf, spanOf, countersBytes, spanBytes, fieldsBytes, bytesIn, oldStateBytes}
+use Rattle.state_bytes.specs.StateBytes.{bytesIn, oldStateBytes}
+use Rattle.state_bytes.specs.Inner.Fields.{countersOf, spanOf, countersBytes, spanBytes, fieldsBytes}
 
 -- ---- lengths
 

@@ -3,22 +3,19 @@
 -- buffer, the open segment's start time, low and high load". Form 1: "the oldest live time leaves the state" (document 02, W-202);
 -- "783 bytes, or 775 in form 0, which has heads of 10 and the oldest live time" (W-214). Little-endian, no gaps. Assumes nothing.
 use mathlib.Core.List.{List, [], _++_}
-use Prim.Native.Nat.{ℕ, _+_, _*_, _%_}
-use lib.IntN.{ℤ}
-use Rattle.codec.specs.Area.{part, splice}
+use Prim.Native.Nat.{ℕ, _+_, _*_}
+use Rattle.lift.specs.Limits.{loadsKept}
+use Rattle.bloom.specs.Bloom.{sectionWidth}
+use Rattle.flash.specs.Chip.{pageWidth}
+use Rattle.codec.specs.Area.{part}
 use Rattle.codec.specs.Number.{bytes, numberAt}
-use Rattle.lift.specs.Record.{recordBytes}
-use Rattle.bloom.specs.Bloom.{noted}
 use Rattle.form.specs.declared.Form.{Form}
 use Rattle.form.specs.declared.Form.the-variants.{Old, New}
 use Rattle.form.specs.Forms.{pointerWidth}
-use Rattle.skiplist.specs.declared.Pointer.{Pointer}
 use Rattle.skiplist.specs.PointerBytes.{pointersBytes, pointersAt}
+use Rattle.skiplist.specs.Skip.{levels}
 use Rattle.store.specs.declared.OldState.{OldState}
 use Rattle.store.specs.declared.State.{State}
-use Rattle.store.specs.Pieces.{stateGiven}
-use Rattle.state_bytes.specs.declared.Counters.{Counters}
-use Rattle.state_bytes.specs.declared.Span.{Span}
 use Rattle.state_bytes.specs.Signed.{loadBytes, loadsBytes, loadAt, loadsAt}
 
 -- ---- what the forms differ in
@@ -33,7 +30,7 @@ abbrev pub headsFrom : Form → ℕ
 headsFrom f = 19 + liveWidth f
 
 abbrev pub loadsFrom : Form → ℕ
-loadsFrom f = headsFrom f + 4 * pointerWidth f
+loadsFrom f = headsFrom f + levels * pointerWidth f
 
 abbrev pub areaLength : Form → ℕ
 areaLength f = loadsFrom f + 708
@@ -66,9 +63,9 @@ stateAs f b =
       buckets = numberAt b 10 1;
       next = numberAt b 11 8;
       heads = pointersAt f b (headsFrom f);
-      loads = loadsAt b at 13;
-      page = part b (at + 52) 512;
-      bloom = part b (at + 564) 128;
+      loads = loadsAt b at loadsKept;
+      page = part b (at + 52) pageWidth;
+      bloom = part b (at + 564) sectionWidth;
       start = numberAt b (at + 692) 8;
       low = loadAt b (at + 700);
       high = loadAt b (at + 704);
@@ -81,33 +78,3 @@ unfoldable pub oldStateIn : List ℕ → OldState
 oldStateIn b = record { state = stateAs Old b; live = numberAt b 19 8 }
 
 -- ---- groups of fields
-
--- those before the heads that both forms have, and those behind the buffers
-abbrev pub countersOf : State → Counters
-countersOf s = record {
-  oldest = s .oldest;
-  current = s .current;
-  count = s .count;
-  buckets = s .buckets;
-  next = s .next;
-}
-
-abbrev pub spanOf : State → Span
-spanOf s = record { start = s .start; low = s .low; high = s .high }
-
-unfoldable pub countersBytes : Counters → List ℕ
-countersBytes c =
-    bytes 4 (c .oldest) ++ bytes 4 (c .current) ++ bytes 2 (c .count) ++ bytes 1 (c .buckets) ++ bytes 8 (c .next)
-
-unfoldable pub spanBytes : Span → List ℕ
-spanBytes s = bytes 8 (s .start) ++ loadBytes (s .low) ++ loadBytes (s .high)
-
--- all fields side by side
-unfoldable pub fieldsBytes : Form → List ℕ → Counters → List Pointer → List ℤ → List ℕ → List ℕ → Span → List ℕ
-fieldsBytes f live c heads loads page section s =
-    (((((countersBytes c ++ live) ++ pointersBytes f heads) ++ loadsBytes loads) ++ page) ++ section) ++ spanBytes s
-
--- a state with a lift that fills no page, its bucket count given
-unfoldable pub withLift : State → ℕ → ℕ → ℤ → List ℕ → ℕ → State
-withLift s time code load note buckets =
-    stateGiven s time load buckets (splice (s .page) (s .count % 16 * 32) (recordBytes time code note)) (noted (s .bloom) code)

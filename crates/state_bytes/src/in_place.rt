@@ -2,22 +2,26 @@
 use crate::Counters;
 use crate::Span;
 use form::Form;
+use lift::NOTE_BYTES;
 ghost use mathlib.Core.Path.{_≡_};
 ghost use mathlib.Core.List.{List};
 ghost use Prim.Native.Nat.{ℕ, _+_, _≤_};
 ghost use lib.IntN.{ℤ};
 ghost use lib.ListN.{length};
+ghost use Rattle.form.specs.declared.Form.the-variants.{New};
+ghost use Rattle.lift.specs.Rows.{liftsMost};
 ghost use Rattle.codec.specs.Area.{splice};
 ghost use Rattle.codec.specs.Number.{numberAt};
-ghost use Rattle.lift.specs.Record.{recordBytes};
-ghost use Rattle.store.specs.Pieces.{stateGiven};
-ghost use Rattle.state_bytes.specs.StateBytes.{countersOf, spanOf, stateBytes, stateIn, withLift};
+ghost use Rattle.lift.specs.Record.{recordBytes, recordWidth};
+ghost use Rattle.state_bytes.specs.StateBytes.{stateBytes, stateIn, areaLength};
+ghost use Rattle.state_bytes.specs.Inner.Fields.{countersOf, spanOf, withLift};
+ghost use Rattle.store.specs.World.{stateGiven};
 
 // The fields before the heads after a lift.
 fn counters_after(b: &[u8], time: u64, buckets: u8) -> Counters
-    requires { ⌜ (length (now b) ≡ 783) × (numberAt (now b) 8 2 ≤ 320) ⌝ }
+    requires { ⌜ (length (now b) ≡ areaLength New) × (numberAt (now b) 8 2 ≤ liftsMost) ⌝ }
     ensures { λ r. ⌜ ((load : ℤ) (page section : List ℕ) → r
-        ≡ countersOf (stateGiven (stateIn (now (b .entry))) time load buckets page section)) ⌝ }
+        ≡ countersOf (stateGiven (stateIn (now (b .entry))) time load time buckets page section)) ⌝ }
 {
     let oldest = codec::get_u32(b, crate::OLDEST_AT);
     let current = codec::get_u32(b, crate::CURRENT_AT);
@@ -33,9 +37,9 @@ fn counters_after(b: &[u8], time: u64, buckets: u8) -> Counters
 
 // Those behind the buffers.
 fn span_after(b: &[u8], time: u64, load: i32) -> Span
-    requires { ⌜ length (now b) ≡ 783 ⌝ }
+    requires { ⌜ length (now b) ≡ areaLength New ⌝ }
     ensures { λ r. ⌜ ((buckets : ℕ) (page section : List ℕ) → r
-        ≡ spanOf (stateGiven (stateIn (now (b .entry))) time load buckets page section)) ⌝ }
+        ≡ spanOf (stateGiven (stateIn (now (b .entry))) time load time buckets page section)) ⌝ }
 {
     let count = codec::get_u16(b, crate::COUNT_AT);
     let start = codec::get_u64(b, crate::START_AT);
@@ -51,8 +55,8 @@ fn span_after(b: &[u8], time: u64, load: i32) -> Span
     }
 }
 
-fn put_record(b: &mut [u8], at: usize, time: u64, code: u32, note: [u8; 20])
-    requires { ⌜ at + 32 ≤ length (now b) ⌝ }
+fn put_record(b: &mut [u8], at: usize, time: u64, code: u32, note: [u8; NOTE_BYTES])
+    requires { ⌜ at + recordWidth ≤ length (now b) ⌝ }
     ensures { λ _. ⌜ now (b .exit) ≡ splice (now (b .entry)) at (recordBytes time code note) ⌝ }
 {
     codec::put_u64(b, at, time);
@@ -61,8 +65,8 @@ fn put_record(b: &mut [u8], at: usize, time: u64, code: u32, note: [u8; 20])
 }
 
 // The lift with its bucket count; its record and bits go into the buffers.
-pub fn put_lift(b: &mut [u8], time: u64, code: u32, load: i32, note: [u8; 20], buckets: u8)
-    requires { ⌜ (length (now b) ≡ 783) × (numberAt (now b) 8 2 ≤ 320) × (1 ≤ code) ⌝ }
+pub fn put_lift(b: &mut [u8], time: u64, code: u32, load: i32, note: [u8; NOTE_BYTES], buckets: u8)
+    requires { ⌜ (length (now b) ≡ areaLength New) × (numberAt (now b) 8 2 ≤ liftsMost) × (1 ≤ code) ⌝ }
     ensures { λ _. ⌜ now (b .exit) ≡ stateBytes (withLift (stateIn (now (b .entry))) time code load note buckets) ⌝ }
 {
     let n = codec::get_u16(b, crate::COUNT_AT);
@@ -73,7 +77,7 @@ pub fn put_lift(b: &mut [u8], time: u64, code: u32, load: i32, note: [u8; 20], b
     let section = bloom::note(before, code);
     let c = counters_after(b, time, buckets);
     let s = span_after(b, time, load);
-    let at = crate::PAGE_AT + (n as usize) % 16 * 32;
+    let at = crate::PAGE_AT + (n as usize) % lift::LIFTS_PER_PAGE * lift::RECORD_BYTES;
     put_record(b, at, time, code, note);
     crate::put_around(b, Form::New, c, heads, loads, section, s);
 }

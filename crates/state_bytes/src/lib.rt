@@ -2,18 +2,24 @@
 // time, and 775 in form 0 (document 02, W-202 and W-214).
 pub mod in_place;
 
+use bloom::SECTION_BYTES;
+use flash::PAGE_BYTES;
 use form::Form;
+use lift::LOADS_KEPT;
+use skiplist::LEVELS;
 use skiplist::Pointer;
 use store::OldState;
 use store::State;
 ghost use mathlib.Core.Path.{_≡_};
 ghost use Prim.Native.Nat.{_+_, _≤_};
 ghost use lib.ListN.{length};
+ghost use Rattle.form.specs.declared.Form.the-variants.{Old, New};
 ghost use Rattle.codec.specs.Area.{part, splice};
 ghost use Rattle.state_bytes.specs.Signed as Signed;
 ghost use Rattle.state_bytes.specs.Signed.{loadBytes, loadsBytes, loadAt, loadsAt};
 ghost use Rattle.state_bytes.specs.StateBytes.{liveWidth, headsFrom, loadsFrom, areaLength};
-ghost use Rattle.state_bytes.specs.StateBytes.{countersBytes, spanBytes, fieldsBytes, bytesIn};
+ghost use Rattle.state_bytes.specs.StateBytes.{bytesIn};
+ghost use Rattle.state_bytes.specs.Inner.Fields.{countersBytes, spanBytes, fieldsBytes};
 ghost use Rattle.state_bytes.specs.StateBytes.{stateBytes, stateIn, oldStateBytes, oldStateIn};
 
 pub const STATE_BYTES: usize = 783;
@@ -117,53 +123,47 @@ fn put_load(b: &mut [u8], at: usize, load: i32)
 }
 
 // The last 13 loads, oldest first.
-fn loads_at(b: &[u8], at: usize) -> [i32; 13]
+fn loads_at(b: &[u8], at: usize) -> [i32; LOADS_KEPT]
     requires { ⌜ at + 52 ≤ length (now b) ⌝ }
     ensures { λ r. ⌜ r ≡ loadsAt (now (b .entry)) at 13 ⌝ }
 {
-    let l0 = load_at(b, at);
-    let l1 = load_at(b, at + 4);
-    let l2 = load_at(b, at + 8);
-    let l3 = load_at(b, at + 12);
-    let l4 = load_at(b, at + 16);
-    let l5 = load_at(b, at + 20);
-    let l6 = load_at(b, at + 24);
-    let l7 = load_at(b, at + 28);
-    let l8 = load_at(b, at + 32);
-    let l9 = load_at(b, at + 36);
-    let l10 = load_at(b, at + 40);
-    let l11 = load_at(b, at + 44);
-    let l12 = load_at(b, at + 48);
-    [l0, l1, l2, l3, l4, l5, l6, l7, l8, l9, l10, l11, l12]
+    let mut loads = [0i32; LOADS_KEPT];
+    let mut i: usize = 0;
+    while i < LOADS_KEPT {
+        let x = load_at(b, at + 4 * i);
+        loads[i] = x;
+        i += 1;
+    }
+    loads
 }
 
-fn put_loads(b: &mut [u8], at: usize, loads: [i32; 13])
+fn put_loads(b: &mut [u8], at: usize, loads: [i32; LOADS_KEPT])
     requires { ⌜ at + 52 ≤ length (now b) ⌝ }
     ensures { λ _. ⌜ now (b .exit) ≡ splice (now (b .entry)) at (loadsBytes loads) ⌝ }
 {
     let mut i: usize = 0;
-    while i < 13 {
+    while i < LOADS_KEPT {
         let x = loads[i];
         put_load(b, at + 4 * i, x);
         i += 1;
     }
 }
 
-fn page_at(b: &[u8], at: usize) -> [u8; 512]
+fn page_at(b: &[u8], at: usize) -> [u8; PAGE_BYTES]
     requires { ⌜ at + 512 ≤ length (now b) ⌝ }
     ensures { λ r. ⌜ r ≡ part (now (b .entry)) at 512 ⌝ }
 {
-    let mut p = [0u8; 512];
+    let mut p = [0u8; PAGE_BYTES];
     let end = at + 512;
     codec::copy(&mut p, 0, &b[at..end]);
     p
 }
 
-fn bloom_at(b: &[u8], at: usize) -> [u8; 128]
+fn bloom_at(b: &[u8], at: usize) -> [u8; SECTION_BYTES]
     requires { ⌜ at + 128 ≤ length (now b) ⌝ }
     ensures { λ r. ⌜ r ≡ part (now (b .entry)) at 128 ⌝ }
 {
-    let mut p = [0u8; 128];
+    let mut p = [0u8; SECTION_BYTES];
     let end = at + 128;
     codec::copy(&mut p, 0, &b[at..end]);
     p
@@ -214,9 +214,9 @@ fn put_around(
     b: &mut [u8],
     form: Form,
     c: Counters,
-    heads: [Pointer; 4],
-    loads: [i32; 13],
-    section: [u8; 128],
+    heads: [Pointer; LEVELS],
+    loads: [i32; LOADS_KEPT],
+    section: [u8; SECTION_BYTES],
     s: Span,
 )
     requires { ⌜ length (now b) ≡ areaLength form ⌝ }
@@ -259,7 +259,7 @@ fn put_fields(b: &mut [u8], form: Form, s: State)
 }
 
 pub fn get_state(b: &[u8]) -> State
-    requires { ⌜ length (now b) ≡ 783 ⌝ }
+    requires { ⌜ length (now b) ≡ areaLength New ⌝ }
     ensures { λ r. ⌜ r ≡ stateIn (now (b .entry)) ⌝ }
 {
     let oldest = codec::get_u32(b, OLDEST_AT);
@@ -291,14 +291,14 @@ pub fn get_state(b: &[u8]) -> State
 }
 
 pub fn put_state(b: &mut [u8], s: State)
-    requires { ⌜ length (now b) ≡ 783 ⌝ }
+    requires { ⌜ length (now b) ≡ areaLength New ⌝ }
     ensures { λ _. ⌜ now (b .exit) ≡ stateBytes s ⌝ }
 {
     put_fields(b, Form::New, s);
 }
 
 pub fn get_old_state(b: &[u8]) -> OldState
-    requires { ⌜ length (now b) ≡ 775 ⌝ }
+    requires { ⌜ length (now b) ≡ areaLength Old ⌝ }
     ensures { λ r. ⌜ r ≡ oldStateIn (now (b .entry)) ⌝ }
 {
     let oldest = codec::get_u32(b, OLDEST_AT);
@@ -335,7 +335,7 @@ pub fn get_old_state(b: &[u8]) -> OldState
 }
 
 pub fn put_old_state(b: &mut [u8], s: OldState)
-    requires { ⌜ length (now b) ≡ 775 ⌝ }
+    requires { ⌜ length (now b) ≡ areaLength Old ⌝ }
     ensures { λ _. ⌜ now (b .exit) ≡ oldStateBytes s ⌝ }
 {
     let state = s.state;

@@ -16,12 +16,12 @@ use Rattle.bounds.proofs.Within.{lift-then}
 use Rattle.form.specs.declared.Form.the-variants.{New}
 use Rattle.grow.specs.declared.Plan.{Plan}
 use Rattle.grow.specs.declared.Plan.the-variants.{Damage, Full, Root, Entry, Child, Split}
-use Rattle.grow.specs.Meaning.{meaning, Fitting}
+use Rattle.grow.specs.Inner.Meaning.{meaning, Fitting}
 use Rattle.store.specs.declared.State.{State}
 use Rattle.store.specs.Bounds.{withinBounds}
 use Rattle.store.specs.World.{World, world, closeWorld, movedOn, dropWorld, withoutOldest, liveAfter, putWorld}
-use Rattle.store.specs.Calls.{boundsGround, planOf, roomWorld, appendGround}
-use Rattle.store.specs.Pieces.{Suits, dropsFirst, dropDue, entryGround, laterGround, carriedOut}
+use Rattle.store.specs.Calls.{planOf, roomWorld, appendGround, dropsFirst}
+use Rattle.store.specs.Inner.Pieces.{Suits, dropDue, entryGround, laterGround, carriedOut, boundsGround}
 use Rattle.store.proofs.Rows.{row-same, row-later, row-none}
 use Rattle.store.proofs.Grounds.{Standing}
 use Rattle.store.proofs.Outcomes.{stands}

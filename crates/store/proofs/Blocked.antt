@@ -1,6 +1,5 @@
--- Grounds 10 and 11 of an append, as tested: on the state as it is, or as a close in the same call leaves it. After a close NOR
--- is erased, so
--- what is due for writing is 255. Assumes nothing.
+-- Grounds 10 and 11 of an append, as tested: on the state as it is, or as a close in the same call leaves it. After a close NOR is
+-- erased, so what is due for writing is 255. Assumes nothing.
 use mathlib.Core.Path.{_≡_, refl, sym, ap, _∙_}
 use mathlib.Core.Bool.{Bool, true, false, not, _&&_, _||_, false≢true}
 use mathlib.Core.List.{List, []}
@@ -9,19 +8,20 @@ use native.Mathlib.Omega.{arith}
 use lib.Dec.{eqb}
 use lib.IntN.{ℤ}
 use lib.ListN.{length}
+use Rattle.codec.proofs.Truth.{or-false}
 use Rattle.codec.specs.Area.{part, repeated, allOnes}
 use Rattle.codec.proofs.Areas.{part-repeated, ones-repeated}
 use Rattle.flash.specs.Chip.{slotOf, pageErased}
 use Rattle.segment.specs.Pages.{closeErased}
+use Rattle.tree.specs.Place.{bucketStart}
 use Rattle.tree.specs.Plan.{Plan, damaged, noRoom, newRoot, intoBucket, newChild, splitBucket, isDamaged, isNoRoom}
 use Rattle.tree.specs.Writes.{writesOf, allClear}
 use Rattle.bounds.specs.Grounds.{ground}
 use Rattle.store.specs.declared.State.{State}
 use Rattle.store.proofs.Rows.{twice}
 use Rattle.store.specs.World.{World, world, closeWorld, movedOn, fillsPage}
-use Rattle.store.specs.Calls as Calls
-use Rattle.store.specs.Calls.{roomWorld, norClear, appendDamage, appendUnerased}
-use Rattle.store.specs.Pieces.{dropsFirst, laterGround}
+use Rattle.store.specs.Calls.{roomWorld, norClear, appendDamage, appendUnerased, dropsFirst}
+use Rattle.store.specs.Inner.Pieces.{laterGround}
 
 -- ---- damage on the path
 
@@ -52,7 +52,7 @@ module _ (nand nor : List ℕ) (s : State) (slots : ℕ) (load : ℤ) (p : Plan)
   w = world nand nor s
 
   damage : appendDamage w slots load p ≡ not clear
-  unfolding appendDamage Calls.dropsFirst norClear
+  unfolding appendDamage norClear
   damage = rw sound (no-drop (dropsFirst s slots) (norClear w load p) ∙ ap not (sym cleared))
 
   stays : roomWorld w slots p ≡ w
@@ -85,12 +85,12 @@ module _ (nand nor : List ℕ) (s : State) (slots : ℕ) (load : ℤ) (size : le
 
   -- NOR bytes due for writing
   clear-closed : norClear (closeWorld v slots) load noRoom ≡ true
-  unfolding norClear closeWorld movedOn allClear writesOf
+  unfolding norClear closeWorld movedOn allClear writesOf bucketStart
   clear-closed =
       rw (size, ones-part 6144 0 0 (omega arith), ones-part 6144 0 8 (omega arith), ones-part 6144 24 6 (omega arith))
 
   damage-closed : appendDamage (closeWorld v slots) slots load noRoom ≡ false
-  unfolding appendDamage Calls.dropsFirst closeWorld
+  unfolding appendDamage closeWorld
   damage-closed =
       no-drop (dropsFirst (closeWorld v slots .state) slots) (norClear (closeWorld v slots) load noRoom) ∙ ap not clear-closed
 
@@ -105,7 +105,3 @@ module _ (nand nor : List ℕ) (s : State) (slots : ℕ) (load : ℤ) (size : le
       let g : closeErased nand (slotOf (s .current) slots) (s .count) (s .buckets) ≡ erased = rw (← e) (sym f) in
       sym (later-closed ∙ ap (λ b. ground 11 b 0) (or-false (not
       (closeErased nand (slotOf (s .current) slots) (s .count) (s .buckets))) ∙ ap not g))
-    where
-      or-false : (b : Bool) → (b || false) ≡ b
-      or-false true = refl
-      or-false false = refl

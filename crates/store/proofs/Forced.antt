@@ -6,11 +6,12 @@ use Prim.Native.Nat.{ℕ, _-_, _≤_, _<_}
 use native.Mathlib.Omega.{arith}
 use lib.Dec.{eqb, leb}
 use borrow.Author.Tests.{leb-true, not-true, not-false}
-use Rattle.bounds.proofs.Within.{and-right}
+use Rattle.codec.proofs.Truth.{and-right}
 use Rattle.flash.specs.Chip.{slotOf, slotErased}
 use Rattle.store.specs.declared.State.{State}
 use Rattle.store.specs.World.{world, dropWorld, withoutOldest, liveAfter}
-use Rattle.store.specs.Pieces.{dropsFirst, dropDue}
+use Rattle.store.specs.Inner.Pieces.{dropDue}
+use Rattle.store.specs.Calls.{dropsFirst}
 
 module _ (nand : List ℕ) (s : State) (slots : ℕ) (first : Bool) (e : first ≡ dropsFirst s slots) where
   -- there is a closed segment to drop

@@ -1,11 +1,12 @@
 -- Grounds 1 to 3 as tested, and what is known where none holds. Assumes nothing.
-use mathlib.Core.Path.{_≡_, refl}
+use mathlib.Core.Path.{_≡_}
 use mathlib.Core.Bool.{Bool, true, false, not, _&&_}
 use mathlib.Core.List.{List, [], _∷_}
 use Prim.Native.Nat.{ℕ}
 use native.Mathlib.Omega.{arith}
 use lib.ListN.{length, getD}
 use borrow.Author.Tests.{not-false}
+use Rattle.codec.proofs.Truth.{and-left, and-right, and-true}
 use Rattle.bounds.specs.Bounds.{serialsOk, countsOk, timesOk, spanOk, loadsOk}
 use Rattle.bounds.specs.Grounds.{ground, nandBad, norBad, formatGround}
 use Rattle.bounds.proofs.Within as Within
@@ -15,14 +16,10 @@ use Rattle.skiplist.specs.declared.Pointer.{Pointer}
 use Rattle.skiplist.specs.Skip.{inSlots}
 use Rattle.store.specs.declared.State.{State}
 use Rattle.store.specs.Bounds.{headsOk, withinBounds}
-use Rattle.store.specs.Calls.{boundsGround}
 use Rattle.store.proofs.Rows.{row}
+use Rattle.store.specs.Inner.Pieces.{boundsGround}
 
 -- ---- ground 3
-
-and-true : (b : Bool) → (b && true) ≡ b
-and-true true = refl
-and-true false = refl
 
 pub four-heads : (slots : ℕ) (ps : List Pointer) (e : Pointer) (a b c d : Bool) → length ps ≡ 4
     → a ≡ inSlots (getD ps 0 e) slots → b ≡ inSlots (getD ps 1 e) slots → c ≡ inSlots (getD ps 2 e) slots
@@ -85,17 +82,17 @@ within f s live nand nor slots fit e =
     let d = spanOk (s .count) (s .low) (s .high) in
     let l = loadsOk (s .loads) in
     let h = headsOk (s .heads) slots in
-    let e1 = Within.and-right a (b && (c && (d && (l && h)))) e in
-    let e2 = Within.and-right b (c && (d && (l && h))) e1 in
-    let e3 = Within.and-right c (d && (l && h)) e2 in
-    let e4 = Within.and-right d (l && h) e3 in
+    let e1 = and-right a (b && (c && (d && (l && h)))) e in
+    let e2 = and-right b (c && (d && (l && h))) e1 in
+    let e3 = and-right c (d && (l && h)) e2 in
+    let e4 = and-right d (l && h) e3 in
     record {
       chips = fit;
-      serials = Within.serials-within _ _ _ _ (Within.and-left a (b && (c && (d && (l && h)))) e);
-      counts = Within.counts-within _ _ _ (Within.and-left b (c && (d && (l && h))) e1);
-      span = Within.span-within _ _ _ (Within.and-left d (l && h) e3);
-      loads = Within.and-left l h e4;
-      heads = Within.and-right l h e4;
+      serials = Within.serials-within _ _ _ _ (and-left a (b && (c && (d && (l && h)))) e);
+      counts = Within.counts-within _ _ _ (and-left b (c && (d && (l && h))) e1);
+      span = Within.span-within _ _ _ (and-left d (l && h) e3);
+      loads = and-left l h e4;
+      heads = and-right l h e4;
     }
 
 -- in either form

@@ -6,6 +6,5 @@ pub mod Putting
 pub mod Forced
 pub mod Blocked
 pub mod Appended
-pub mod Asked
-pub mod TallyMost
 pub mod Plain
+pub mod Sentences

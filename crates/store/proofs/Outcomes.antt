@@ -1,6 +1,5 @@
--- Each return of `format`, `close` and `drop` is what the definition gives there. The hypotheses are what the calls ensure and
--- the tests show.
--- Assumes nothing.
+-- Each return of `format`, `close` and `drop` is what the definition gives there. The hypotheses are what the calls ensure and the
+-- tests show. Assumes nothing.
 use mathlib.Core.Path.{_≡_, refl}
 use mathlib.Core.Bool.{Bool, true, false, not}
 use mathlib.Core.List.{List}
@@ -16,8 +15,9 @@ use Rattle.store.specs.declared.State.{State}
 use Rattle.store.specs.Bounds.{withinBounds}
 use Rattle.store.proofs.Rows.{row-same, row-later}
 use Rattle.store.specs.World.{World, world, closeWorld, dropWorld, withoutOldest, liveAfter}
-use Rattle.store.specs.Calls.{Outcome, outcome, answered, formatted, formatOutcome, boundsGround}
+use Rattle.store.specs.Calls.{Outcome, outcome, returned, formatted, formatOutcome}
 use Rattle.store.specs.Calls.{stateGround, closeGround, closeOutcome, dropGround, dropOutcome}
+use Rattle.store.specs.Inner.Pieces.{boundsGround}
 
 -- ---- a refusal, and a call that is accepted
 
@@ -47,12 +47,12 @@ module _ (nand nor : List ℕ) (s : State) (slots n : ℕ) (judged : n ≡ bound
 
 module _ (nand nor : List ℕ) (slots n : ℕ) (s : State) (judged : n ≡ formatGround (length nand) (length nor) slots)
     (new : s ≡ formatted) where
-  pub format-refused : (n ≡ 0 → ⊥) → answered n nand nor s ≡ formatOutcome New nand nor slots
+  pub format-refused : (n ≡ 0 → ⊥) → returned n nand nor s ≡ formatOutcome New nand nor slots
   unfolding formatOutcome
   format-refused h = rw new (refuses n _ (world nand nor formatted) _ judged h)
 
   pub format-done : (nand' nor' : List ℕ) → n ≡ 0 → nand' ≡ chipErased (length nand) → nor' ≡ chipErased (length nor)
-      → answered 0 nand' nor' s ≡ formatOutcome New nand nor slots
+      → returned 0 nand' nor' s ≡ formatOutcome New nand nor slots
   unfolding formatOutcome
   format-done nand' nor' h e f = accepts n _ (world nand nor formatted) _ judged (world nand' nor' s) h (rw (new, e, f))
 
@@ -62,12 +62,12 @@ module _ (nand nor : List ℕ) (s : State) (slots n : ℕ) (judged : n ≡ bound
   abbrev w : World
   w = world nand nor s
 
-  pub close-bounds : (n ≡ 0 → ⊥) → answered n nand nor s ≡ closeOutcome w slots
+  pub close-bounds : (n ≡ 0 → ⊥) → returned n nand nor s ≡ closeOutcome w slots
   unfolding closeOutcome closeGround
   close-bounds h = refuses n _ w (closeWorld w slots) (stands-not nand nor s slots n judged _ h) h
 
   module _ (zero : n ≡ 0) where
-    pub close-none : s .count ≡ 0 → answered 9 nand nor s ≡ closeOutcome w slots
+    pub close-none : s .count ≡ 0 → returned 9 nand nor s ≡ closeOutcome w slots
     unfolding closeOutcome closeGround
     close-none h =
         refuses 9 _ w (closeWorld w slots) (stands nand nor s slots n judged _ 9 zero (rw (eq-eqb (s .count) 0 h))) (λ z. omega arith)
@@ -75,14 +75,14 @@ module _ (nand nor : List ℕ) (s : State) (slots n : ℕ) (judged : n ≡ bound
     module _ (slot : ℕ) (there : slot ≡ slotOf (s .current) slots) (e : Bool)
         (erased : e ≡ closeErased nand slot (s .count) (s .buckets))
         (some : s .count ≡ 0 → ⊥) where
-      pub close-unerased : not e ≡ true → answered 11 nand nor s ≡ closeOutcome w slots
+      pub close-unerased : not e ≡ true → returned 11 nand nor s ≡ closeOutcome w slots
       unfolding closeOutcome closeGround
       close-unerased h =
           refuses 11 _ w (closeWorld w slots) (stands nand nor s slots n judged _ 11 zero
           (rw (ne-eqb (s .count) 0 some, ← there, ← erased, h))) (λ z. omega arith)
 
       pub close-done : (nand' nor' : List ℕ) (s' : State) → not e ≡ false → world nand' nor' s' ≡ closeWorld w slots
-          → answered 0 nand' nor' s' ≡ closeOutcome w slots
+          → returned 0 nand' nor' s' ≡ closeOutcome w slots
       unfolding closeOutcome closeGround
       close-done nand' nor' s' h f =
           accepts 0 _ w (closeWorld w slots) (stands nand nor s slots n judged _ 0 zero
@@ -91,19 +91,19 @@ module _ (nand nor : List ℕ) (s : State) (slots n : ℕ) (judged : n ≡ bound
 
   -- ---- drop
 
-  pub drop-bounds : (n ≡ 0 → ⊥) → answered n nand nor s ≡ dropOutcome w slots
+  pub drop-bounds : (n ≡ 0 → ⊥) → returned n nand nor s ≡ dropOutcome w slots
   unfolding dropOutcome dropGround
   drop-bounds h = refuses n _ w (dropWorld w slots) (stands-not nand nor s slots n judged _ h) h
 
   module _ (zero : n ≡ 0) where
-    pub drop-none : s .oldest ≡ s .current → answered 9 nand nor s ≡ dropOutcome w slots
+    pub drop-none : s .oldest ≡ s .current → returned 9 nand nor s ≡ dropOutcome w slots
     unfolding dropOutcome dropGround
     drop-none h =
         refuses 9 _ w (dropWorld w slots) (stands nand nor s slots n judged _ 9 zero (rw (eq-eqb (s .oldest) (s .current) h)))
         (λ z. omega arith)
 
     pub drop-done : (nand' : List ℕ) (s' : State) → (s .oldest ≡ s .current → ⊥) → nand' ≡ slotErased nand (slotOf (s .oldest) slots)
-        → s' ≡ withoutOldest s → answered 0 nand' nor s' ≡ dropOutcome w slots
+        → s' ≡ withoutOldest s → returned 0 nand' nor s' ≡ dropOutcome w slots
     unfolding dropOutcome dropGround dropWorld liveAfter
     drop-done nand' s' some e f =
         accepts 0 _ w (dropWorld w slots) (stands nand nor s slots n judged _ 0 zero (rw (ne-eqb (s .oldest) (s .current) some)))

@@ -1,7 +1,7 @@
 -- An append by its number and its plan: refused, or carried out; a plain one enters the tree, and its record and bits go into the
 -- buffers, nothing else. By the tests that a plain lift passes. Assumes nothing.
 use mathlib.Core.Path.{_≡_, refl, sym, ap, subst, _∙_}
-use mathlib.Core.Bool.{Bool, true, false, cond, not, _||_, false≢true}
+use mathlib.Core.Bool.{Bool, true, false, not, _||_, false≢true}
 use mathlib.Core.List.{List}
 use Prim.Native.Nat.{ℕ, _+_, _%_}
 use native.Mathlib.Omega.{arith}
@@ -14,10 +14,9 @@ use Rattle.tree.specs.Plan.{isNoRoom}
 use Rattle.tree.specs.Writes.{writesOf, allWritten, bucketsAfter}
 use Rattle.grow.specs.declared.Plan.{Plan}
 use Rattle.store.specs.declared.State.{State}
-use Rattle.store.specs.World.{World, world, putWorld, stateWith, liveWith, pageWith, bloomWith, fillsPage, fillsSection}
-use Rattle.store.specs.Calls as Calls
-use Rattle.store.specs.Calls.{Outcome, planOf, roomWorld, appendGround, appendWorld, appendOutcome}
-use Rattle.store.specs.Pieces.{Accepted, dropsFirst, dropDue, isPlain, stateGiven, carriedOut}
+use Rattle.store.specs.World.{World, world, putWorld, nandWith, norWith, stateWith, liveWith, pageWith, bloomWith, fillsPage, stateGiven}
+use Rattle.store.specs.Calls.{Outcome, planOf, roomWorld, appendGround, appendWorld, appendOutcome, dropsFirst}
+use Rattle.store.specs.Inner.Pieces.{Accepted, dropDue, isPlain, carriedOut}
 use Rattle.store.proofs.Outcomes.{refuses, accepts}
 
 -- ---- by the number
@@ -30,7 +29,7 @@ module _ (w : World) (slots time : ℕ) (load : ℤ) (note : List ℕ) (n : ℕ)
   pub append-carried : (p : Tree.Plan) (w' : World) (z : ℤ) → n ≡ 0 → p ≡ planOf w load → z ≡ load
       → w' ≡ carriedOut w slots time z note p
       → _≡_ {A = Outcome} (record { number = 0; world = w' }) (appendOutcome w slots time load note)
-  unfolding appendOutcome appendWorld carriedOut dropDue Calls.dropsFirst
+  unfolding appendOutcome appendWorld carriedOut dropDue
   append-carried p w' z h e k f = accepts n _ w (appendWorld w slots time load note) number w' h (rw (e, k) at f)
 
 -- of the load as passed
@@ -77,8 +76,8 @@ module _ (nand nor : List ℕ) (s : State) (slots time : ℕ) (load : ℤ) (note
 
   put : putWorld (world nand nor s) slots time load note p
       ≡ world nand (allWritten nor (writesOf p (s .buckets) (stored load) (s .count)))
-      (stateGiven s time load (bucketsAfter p (s .buckets)) (pageWith s time load note) (bloomWith s load))
-  unfolding putWorld stateWith liveWith stateGiven
+      (stateGiven s time load time (bucketsAfter p (s .buckets)) (pageWith s time load note) (bloomWith s load))
+  unfolding putWorld nandWith norWith stateWith liveWith stateGiven
   put = let last : time + 0 ≡ time = omega arith in rw (last, is .page, no-section (s .count) (is .page))
 
   carried : carriedOut (world nand nor s) slots time load note p ≡ putWorld (world nand nor s) slots time load note p
@@ -87,6 +86,6 @@ module _ (nand nor : List ℕ) (s : State) (slots time : ℕ) (load : ℤ) (note
 
   -- the world that its pieces leave
   pub plain-made : (nor' : List ℕ) → nor' ≡ allWritten nor (writesOf p (s .buckets) (stored load) (s .count))
-      → world nand nor' (stateGiven s time load (bucketsAfter p (s .buckets)) (pageWith s time load note) (bloomWith s load))
+      → world nand nor' (stateGiven s time load time (bucketsAfter p (s .buckets)) (pageWith s time load note) (bloomWith s load))
       ≡ carriedOut (world nand nor s) slots time load note p
   plain-made nor' e = rw e (sym (carried ∙ put))

@@ -1,6 +1,5 @@
--- What the parts of an append's lift make: the buffers, NAND, NOR and the state after it. By the tests at a page's sixteenth and
--- a section's
--- sixty-fourth lift. Assumes nothing.
+-- What the parts of an append's lift make: the buffers, NAND, NOR and the state after it. By the tests at a page's sixteenth and a
+-- section's sixty-fourth lift. Assumes nothing.
 use mathlib.Core.Path.{_≡_, refl, sym, ap, _∙_}
 use mathlib.Core.Bool.{Bool, true, false, cond, not, _&&_, _||_, false≢true}
 use mathlib.Core.List.{List, [], _∷_, map}
@@ -12,6 +11,7 @@ use lib.ListN.{length, getD}
 use borrow.Author.Tests.{eq-eqb, ne-eqb, eqb-true, eqb-false}
 use Rattle.codec.specs.Area.{part, splice, allOnes}
 use Rattle.codec.proofs.Areas.{length-part}
+use Rattle.codec.proofs.Truth.{and-left, and-right}
 use Rattle.flash.specs.Chip.{slotOf, programmed, erasedPage, norTree}
 use Rattle.lift.specs.Limits.{loadOk, stored}
 use Rattle.lift.specs.Record.{recordBytes}
@@ -22,14 +22,13 @@ use Rattle.tree.specs.Plan.{planOn, isNoRoom}
 use Rattle.tree.specs.Writes.{Writes, writesOf, allWritten, allClear, bucketsAfter}
 use Rattle.bounds.specs.Bounds.{loadsOk}
 use Rattle.bounds.specs.Lifts.{pushed, lowWith, highWith}
-use Rattle.bounds.proofs.Within.{and-left, and-right}
 use Rattle.grow.specs.declared.Plan.{Plan}
-use Rattle.grow.specs.Meaning.{meaning, Fitting}
+use Rattle.grow.specs.Inner.Meaning.{meaning, Fitting}
 use Rattle.store.specs.declared.State.{State}
 use Rattle.store.proofs.Rows.{twice}
-use Rattle.store.specs.World.{world, putWorld, stateWith, liveWith, pageWith, bloomWith, fillsPage, fillsSection}
+use Rattle.store.specs.World.{world, putWorld, stateWith, liveWith, pageWith, bloomWith, fillsPage, fillsSection, nandWith, norWith, stateGiven}
 use Rattle.store.specs.Calls.{planOf, norClear}
-use Rattle.store.specs.Pieces.{Suits, nandWith, norWith, stateGiven}
+use Rattle.store.specs.Inner.Pieces.{Suits}
 
 -- ---- one of two, by a number
 
@@ -155,7 +154,7 @@ pub counted-made : (s : State) (time : ℕ) (load : ℤ) (buckets : ℕ) (page s
       start = start;
       low = low;
       high = high;
-    }) (stateGiven s time load buckets page section)
+    }) (stateGiven s time load time buckets page section)
 unfolding stateGiven
 counted-made s time load buckets page section loads low high start a b c d = rw (a, b, c, d)
 
@@ -164,7 +163,7 @@ pub put-made : (nand nor nand' nor' : List ℕ) (s s' : State) (slots time : ℕ
     → z ≡ load → nand' ≡ nandWith nand s slots time load note → nor' ≡ norWith nor s load p
     → page ≡ cond (fillsPage s) erasedPage (pageWith s time load note)
     → section ≡ cond (fillsSection s) emptySection (bloomWith s load)
-    → buckets ≡ bucketsAfter p (s .buckets) → s' ≡ stateGiven s time z buckets page section
+    → buckets ≡ bucketsAfter p (s .buckets) → s' ≡ stateGiven s time z time buckets page section
     → world nand' nor' s' ≡ putWorld (world nand nor s) slots time load note p
 unfolding putWorld stateWith liveWith nandWith norWith stateGiven
 put-made nand nor nand' nor' s s' slots time z load note p buckets page section k a b c d e f =

@@ -1,6 +1,5 @@
 -- Grounds 1 to 3 in a row before later ones, whatever their tests: where one holds the later do not matter, where none holds they
--- decide.
--- Assumes nothing.
+-- decide. Assumes nothing.
 use mathlib.Core.Path.{_≡_, refl}
 use mathlib.Core.Bool.{Bool, true, false, not}
 use Prim.Native.Nat.{ℕ}

@@ -1,19 +1,19 @@
 -- The calls that write: their grounds in checking order (document 01, "Twelve grounds") and their outcomes, for any chips and any
--- state.
--- Assumes nothing.
+-- state. Assumes nothing.
 use mathlib.Core.Bool.{Bool, true, false, cond, not, _&&_, _||_}
 use mathlib.Core.List.{List, map}
 use Prim.Native.Nat.{ℕ, _-_, _/_}
-use lib.Dec.{eqb, leb, ltb}
+use lib.Dec.{eqb, leb}
 use lib.IntN.{ℤ, pos}
-use lib.ListN.{length, replicate}
+use lib.ListN.{length}
 use Rattle.codec.specs.Area.{part, allOnes}
 use Rattle.flash.specs.Chip.{slotOf, pageErased, chipErased, erasedPage, norTree}
 use Rattle.lift.specs.Limits.{stored}
-use Rattle.bloom.specs.Bloom.{emptySection}
+use Rattle.lift.specs.Rows.{liftsPerPage}
+use Rattle.bloom.specs.Bloom.{emptySection, sectionWidth}
 use Rattle.form.specs.declared.Form.{Form}
 use Rattle.form.specs.declared.Form.the-variants.{Old, New}
-use Rattle.skiplist.specs.Skip.{none}
+use Rattle.skiplist.specs.Skip.{noHeads}
 use Rattle.segment.specs.Pages.{closeErased}
 use Rattle.tree.specs.Plan.{Plan, planOn, isDamaged, isNoRoom}
 use Rattle.tree.specs.Writes.{writesOf, allClear}
@@ -29,8 +29,8 @@ pub record Outcome : Type 0 where
   pub number : ℕ
   pub world : World
 
-abbrev pub answered : ℕ → List ℕ → List ℕ → State → Outcome
-answered number nand nor s = record { number = number; world = world nand nor s }
+abbrev pub returned : ℕ → List ℕ → List ℕ → State → Outcome
+returned number nand nor s = record { number = number; world = world nand nor s }
 
 -- "A refusal returns its number alone and alters nothing."
 abbrev pub outcome : ℕ → World → World → Outcome
@@ -46,7 +46,7 @@ formatted = record {
   count = 0;
   buckets = 0;
   next = 0;
-  heads = replicate 4 none;
+  heads = noHeads;
   loads = noLoads;
   page = erasedPage;
   bloom = emptySection;
@@ -64,15 +64,14 @@ formatOutcome f nand nor slots =
 
 -- ---- grounds 1 to 3, of every other call
 
-abbrev pub stateGround : World → ℕ → ℕ → ℕ
-stateGround w slots rest =
-    ground 1 (nandBad (length (w .nand)) slots) (ground 2 (norBad (length (w .nor)))
-    (ground 3 (not (withinBounds (w .form) (w .state) (w .live) slots)) rest))
+-- of a state of either form and of chips of these lengths; then what the later grounds give
+abbrev pub firstGrounds : Form → State → ℕ → ℕ → ℕ → ℕ → ℕ → ℕ
+firstGrounds f s live nandLength norLength slots rest =
+    ground 1 (nandBad nandLength slots) (ground 2 (norBad norLength) (ground 3 (not (withinBounds f s live slots)) rest))
 
--- these alone, by the chips' lengths
-unfoldable pub boundsGround : Form → State → ℕ → ℕ → ℕ → ℕ → ℕ
-boundsGround f s live nandLength norLength slots =
-    ground 1 (nandBad nandLength slots) (ground 2 (norBad norLength) (ground 3 (not (withinBounds f s live slots)) 0))
+-- of a world
+abbrev pub stateGround : World → ℕ → ℕ → ℕ
+stateGround w slots rest = firstGrounds (w .form) (w .state) (w .live) (length (w .nand)) (length (w .nor)) slots rest
 
 -- ---- close
 
@@ -118,25 +117,25 @@ unfoldable pub roomWorld : World → ℕ → Plan → World
 roomWorld w slots p = cond (isNoRoom p) (closeWorld w slots) w
 
 -- "The first append to n erases that slot if oldest ≤ n − S"
-unfoldable pub dropsFirst : World → ℕ → Bool
-dropsFirst w slots = eqb (w .state .count) 0 && leb slots (w .state .current - w .state .oldest)
+abbrev pub dropsFirst : State → ℕ → Bool
+dropsFirst s slots = eqb (s .count) 0 && leb slots (s .current - s .oldest)
 
 -- NOR bytes due for writing are all 255
 unfoldable pub norClear : World → ℤ → Plan → Bool
 norClear w load p =
     allClear (w .nor) (writesOf p (w .state .buckets) (stored load) (w .state .count))
-    && (not (fillsSection (w .state)) || allOnes (part (w .nor) (sectionStart (w .state)) 128))
+    && (not (fillsSection (w .state)) || allOnes (part (w .nor) (sectionStart (w .state)) sectionWidth))
 
 -- ground 10, of the plan p and the world r after a close that is due
 unfoldable pub appendDamage : World → ℕ → ℤ → Plan → Bool
 appendDamage r slots load p =
-    isDamaged p || ((dropsFirst r slots && dropDamage r slots) || not (norClear r load p))
+    isDamaged p || ((dropsFirst (r .state) slots && dropDamage r slots) || not (norClear r load p))
 
 -- ground 11: the pages of a close that is due, and the page that the lift fills
 unfoldable pub appendUnerased : World → World → ℕ → Plan → Bool
 appendUnerased w r slots p =
     (isNoRoom p && not (closeErased (w .nand) (slotOf (w .state .current) slots) (w .state .count) (w .state .buckets)))
-    || (fillsPage (r .state) && not (pageErased (r .nand) (slotOf (r .state .current) slots) (r .state .count / 16)))
+    || (fillsPage (r .state) && not (pageErased (r .nand) (slotOf (r .state .current) slots) (r .state .count / liftsPerPage)))
 
 unfoldable pub appendGround : World → ℕ → ℕ → ℤ → ℕ
 appendGround w slots time load =
@@ -151,7 +150,7 @@ unfoldable pub appendWorld : World → ℕ → ℕ → ℤ → List ℕ → Worl
 appendWorld w slots time load note =
     let p = planOf w load in
     let r = roomWorld w slots p in
-    putWorld (cond (dropsFirst r slots) (dropWorld r slots) r) slots time load note p
+    putWorld (cond (dropsFirst (r .state) slots) (dropWorld r slots) r) slots time load note p
 
 unfoldable pub appendOutcome : World → ℕ → ℕ → ℤ → List ℕ → Outcome
 appendOutcome w slots time load note = outcome (appendGround w slots time load) w (appendWorld w slots time load note)

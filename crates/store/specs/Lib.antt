@@ -1,5 +1,5 @@
 pub mod Bounds
 pub mod World
 pub mod Calls
-pub mod Pieces
-pub mod Queries
+pub mod Inner
+pub mod Sentences

@@ -1,18 +1,17 @@
 -- What a close, a drop and a lift that is put do to the chips and the state (document 01, "State", "Segments"), for any chips and
--- any state.
--- Assumes nothing.
-use mathlib.Core.Bool.{Bool, true, false, cond, not, _&&_}
-use mathlib.Core.List.{List, [], _∷_, _++_, map}
+-- any state. Assumes nothing.
+use mathlib.Core.Bool.{Bool, cond, _&&_}
+use mathlib.Core.List.{List}
 use Prim.Native.Nat.{ℕ, _+_, _-_, _*_, _/_, _%_}
-use lib.Dec.{eqb, leb, ltb}
+use lib.Dec.{eqb, ltb}
 use lib.IntN.{ℤ, pos}
-use lib.ListN.{length, drop, replicate, set}
-use lib.Signed.{ltZ}
-use Rattle.codec.specs.Area.{splice, repeated}
-use Rattle.flash.specs.Chip.{slotOf, pageOf, programmed, slotErased, chipErased, erasedPage}
+use lib.ListN.{length}
+use Rattle.codec.specs.Area.{splice}
+use Rattle.flash.specs.Chip.{slotOf, pageOf, programmed, slotErased, chipErased, erasedPage, headerLast, treeWidth}
 use Rattle.lift.specs.Limits.{stored}
-use Rattle.lift.specs.Record.{recordBytes}
-use Rattle.bloom.specs.Bloom.{noted, emptySection}
+use Rattle.lift.specs.Record.{recordBytes, recordWidth}
+use Rattle.lift.specs.Rows.{liftsPerPage}
+use Rattle.bloom.specs.Bloom.{noted, emptySection, liftsPerSection, sectionWidth}
 use Rattle.form.specs.declared.Form.{Form}
 use Rattle.form.specs.declared.Form.the-variants.{Old, New}
 use Rattle.form.specs.Forms.{step}
@@ -77,9 +76,8 @@ closing f s = record {
   bloom = s .bloom;
 }
 
--- "A close leaves count, buckets, last loads, start, low and high 0, the page buffer 255 and the Bloom buffer 0"; it "moves on
--- one serial",
--- and the heads up to its level point to the segment
+-- "A close leaves count, buckets, last loads, start, low and high 0, the page buffer 255 and the Bloom buffer 0"; it "moves on one
+-- serial", and the heads up to its level point to the segment
 unfoldable pub movedOn : Form → State → ℕ → State
 movedOn f s slot = record {
   oldest = s .oldest;
@@ -110,7 +108,7 @@ closeWorld w slots = record {
 
 -- form 0: the header of the closed segment that becomes oldest, which a drop reads
 abbrev pub nextOldest : World → ℕ → Header
-nextOldest w slots = headerIn (w .form) (pageOf (w .nand) (slotOf (w .state .oldest + 1) slots) 31) slots (w .state .current)
+nextOldest w slots = headerIn (w .form) (pageOf (w .nand) (slotOf (w .state .oldest + 1) slots) headerLast) slots (w .state .current)
 
 -- a closed segment becomes oldest, and not the open one
 abbrev pub closedRemains : State → Bool
@@ -152,7 +150,7 @@ dropWorld w slots = record {
 
 -- the page buffer with the lift's record
 abbrev pub pageWith : State → ℕ → ℤ → List ℕ → List ℕ
-pageWith s time load note = splice (s .page) (s .count % 16 * 32) (recordBytes time (stored load) note)
+pageWith s time load note = splice (s .page) (s .count % liftsPerPage * recordWidth) (recordBytes time (stored load) note)
 
 -- the Bloom buffer with the lift's bits
 abbrev pub bloomWith : State → ℤ → List ℕ
@@ -160,49 +158,59 @@ bloomWith s load = noted (s .bloom) (stored load)
 
 -- the lift is the sixteenth of its page, the sixty-fourth of its section
 abbrev pub fillsPage : State → Bool
-fillsPage s = eqb (s .count % 16) 15
+fillsPage s = eqb (s .count % liftsPerPage) (liftsPerPage - 1)
 
 abbrev pub fillsSection : State → Bool
-fillsSection s = eqb (s .count % 64) 63
+fillsSection s = eqb (s .count % liftsPerSection) (liftsPerSection - 1)
 
 abbrev pub sectionStart : State → ℕ
-sectionStart s = 4608 + s .count / 64 * 128
+sectionStart s = treeWidth + s .count / liftsPerSection * sectionWidth
 
--- the state with a lift more: next time is "last accepted + 1" in form 0, the last accepted in form 1; at count 0 the lift starts
--- the segment
-unfoldable pub stateWith : Form → State → ℕ → ℤ → List ℕ → Plan → State
-stateWith f s time load note p = record {
+-- NAND with the lift: "A page goes to NAND when its sixteenth lift arrives"
+unfoldable pub nandWith : List ℕ → State → ℕ → ℕ → ℤ → List ℕ → List ℕ
+nandWith nand s slots time load note =
+    cond (fillsPage s) (programmed nand (slotOf (s .current) slots) (s .count / liftsPerPage) (pageWith s time load note)) nand
+
+-- NOR with the lift: its entry where the plan says, "and a Bloom section to NOR at its sixty-fourth"
+unfoldable pub norWith : List ℕ → State → ℤ → Plan → List ℕ
+norWith nor s load p =
+    let entered = allWritten nor (writesOf p (s .buckets) (stored load) (s .count)) in
+    cond (fillsSection s) (splice entered (sectionStart s) (bloomWith s load)) entered
+
+-- the state with a lift more, where next time, bucket count and buffers after it are given; at count 0 the lift starts the segment
+unfoldable pub stateGiven : State → ℕ → ℤ → ℕ → ℕ → List ℕ → List ℕ → State
+stateGiven s time load next buckets page bloom = record {
   oldest = s .oldest;
   current = s .current;
   count = s .count + 1;
-  buckets = bucketsAfter p (s .buckets);
-  next = time + step f;
+  buckets = buckets;
+  next = next;
   heads = s .heads;
   loads = pushed (s .loads) (s .count) load;
-  page = cond (fillsPage s) erasedPage (pageWith s time load note);
-  bloom = cond (fillsSection s) emptySection (bloomWith s load);
+  page = page;
+  bloom = bloom;
   start = cond (eqb (s .count) 0) time (s .start);
   low = lowWith (s .count) (s .low) load;
   high = highWith (s .count) (s .high) load;
 }
 
+-- next time is "last accepted + 1" in form 0, the last accepted in form 1; a full page or section leaves its buffer: "that buffer is then made
+-- empty (255, or 0 for Bloom)"
+unfoldable pub stateWith : Form → State → ℕ → ℤ → List ℕ → Plan → State
+stateWith f s time load note p =
+    stateGiven s time load (time + step f) (bucketsAfter p (s .buckets)) (cond (fillsPage s) erasedPage (pageWith s time load note))
+    (cond (fillsSection s) emptySection (bloomWith s load))
+
 -- form 0: it is the oldest retained one where no closed segment is left
 unfoldable pub liveWith : World → ℕ → ℕ
 liveWith w time = liveTime (w .form) (cond (eqb (w .state .count) 0 && eqb (w .state .oldest) (w .state .current)) time (w .live))
 
--- The lift goes last into the open segment, its entry where the plan says. "A page goes to NAND when its sixteenth lift arrives,
--- and a
--- Bloom section to NOR at its sixty-fourth; that buffer is then made empty."
+-- the lift goes last into the open segment
 unfoldable pub putWorld : World → ℕ → ℕ → ℤ → List ℕ → Plan → World
-putWorld w slots time load note p =
-    let s = w .state in
-    let entered = allWritten (w .nor) (writesOf p (s .buckets) (stored load) (s .count)) in
-    record {
-      form = w .form;
-      nand =
-          cond (fillsPage s) (programmed (w .nand) (slotOf (s .current) slots) (s .count / 16) (pageWith s time load note))
-          (w .nand);
-      nor = cond (fillsSection s) (splice entered (sectionStart s) (bloomWith s load)) entered;
-      state = stateWith (w .form) s time load note p;
-      live = liveWith w time;
-    }
+putWorld w slots time load note p = record {
+  form = w .form;
+  nand = nandWith (w .nand) (w .state) slots time load note;
+  nor = norWith (w .nor) (w .state) load p;
+  state = stateWith (w .form) (w .state) time load note p;
+  live = liveWith w time;
+}

@@ -2,35 +2,48 @@
 // methods.
 pub mod append;
 pub mod parts;
-mod queries;
 
+use bloom::SECTION_BYTES;
+use flash::PAGE_BYTES;
 use form::Form;
+use lift::LOADS_KEPT;
 use segment::Closing;
+use skiplist::LEVELS;
 use skiplist::Pointer;
 ghost use mathlib.Core.Path.{_≡_};
 ghost use mathlib.Core.Bool.{true};
 ghost use Prim.Native.Nat.{_+_, _-_, _*_, _^_, _≤_, _<_};
 ghost use lib.ListN.{length};
-ghost use Rattle.flash.specs.Chip.{slotOf, slotErased};
+ghost use Rattle.flash.specs.Chip.{slotOf, slotErased, slotWidth};
 ghost use Rattle.lift.specs.Limits.{loadOk};
 ghost use Rattle.form.specs.declared.Form.the-variants.{New};
 ghost use Rattle.store.specs.Bounds.{headsOk, withinBounds};
 ghost use Rattle.store.specs.World as World;
 ghost use Rattle.store.specs.World.{world, closeWorld};
-ghost use Rattle.store.specs.Calls.{answered, formatted, boundsGround};
+ghost use Rattle.store.specs.Calls.{returned, formatted};
 ghost use Rattle.store.specs.Calls.{formatOutcome, closeOutcome, dropOutcome};
+ghost use Rattle.store.specs.Inner.Pieces.{boundsGround};
 
 // The state, by value, in the order of document 01's list. The last loads, low and high are signed, as logged.
 pub struct State {
+    // oldest retained serial
     pub oldest: u32,
+    // open serial
     pub current: u32,
+    // count: lifts of the open segment, its bucket count
     pub count: u16,
     pub buckets: u8,
+    // next time: the last accepted time, at first 0
     pub next: u64,
-    pub heads: [Pointer; 4],
-    pub loads: [i32; 13],
-    pub page: [u8; 512],
-    pub bloom: [u8; 128],
+    // four skip heads, level 1 first
+    pub heads: [Pointer; LEVELS],
+    // last 13 loads of the open segment, oldest first; unused places 0
+    pub loads: [i32; LOADS_KEPT],
+    // page buffer
+    pub page: [u8; PAGE_BYTES],
+    // Bloom buffer
+    pub bloom: [u8; SECTION_BYTES],
+    // the open segment's start time, its low and high load
     pub start: u64,
     pub low: i32,
     pub high: i32,
@@ -40,16 +53,18 @@ pub struct State {
 // looked at.
 pub struct OldState {
     pub state: State,
+    // oldest live time: "the start of the oldest retained lift, or next time if there is none"
     pub live: u64,
 }
 
-// A call's number, and the next state: the state as it was where the number is not 0.
+// A call's number, and the next state: the state as it was where the number is not 0. A format takes no state; refused, it hands back the
+// formatted one all the same.
 pub struct Answer {
     pub number: u8,
     pub state: State,
 }
 
-fn heads_ok(heads: [Pointer; 4], slots: u64) -> bool
+fn heads_ok(heads: [Pointer; LEVELS], slots: u64) -> bool
     ensures { λ r. ⌜ r ≡ headsOk heads slots ⌝ }
 {
     let a = heads[0];
@@ -177,7 +192,7 @@ impl State {
 
     // The oldest closed segment is erased.
     fn dropped(mut self, nand: &mut [u8], slots: u64) -> State
-        requires { ⌜ (length (now nand) ≡ slots * 16384) × (1 ≤ slots) × (1 ≤ self .oldest) × (self .oldest < self .current) ⌝ }
+        requires { ⌜ (length (now nand) ≡ slots * slotWidth) × (1 ≤ slots) × (1 ≤ self .oldest) × (self .oldest < self .current) ⌝ }
         ensures { λ r. ⌜ (now (nand .exit) ≡ slotErased (now (nand .entry)) (slotOf (self .oldest) slots))
             × (r ≡ World.withoutOldest self) ⌝ }
     {
@@ -188,7 +203,7 @@ impl State {
     }
 
     pub fn format(nand: &mut [u8], nor: &mut [u8], slots: u64) -> Answer
-        ensures { λ r. ⌜ answered (r .number) (now (nand .exit)) (now (nor .exit)) (r .state)
+        ensures { λ r. ⌜ returned (r .number) (now (nand .exit)) (now (nor .exit)) (r .state)
             ≡ formatOutcome New (now (nand .entry)) (now (nor .entry)) slots ⌝ }
     {
         let n = bounds::chips_ground(nand.len(), nor.len(), slots);
@@ -208,7 +223,7 @@ impl State {
     }
 
     pub fn close(self, nand: &mut [u8], nor: &mut [u8], slots: u64) -> Answer
-        ensures { λ r. ⌜ answered (r .number) (now (nand .exit)) (now (nor .exit)) (r .state)
+        ensures { λ r. ⌜ returned (r .number) (now (nand .exit)) (now (nor .exit)) (r .state)
             ≡ closeOutcome (world (now (nand .entry)) (now (nor .entry)) self) slots ⌝ }
     {
         let n = self.ground(Form::New, 0, nand.len(), nor.len(), slots);
@@ -239,7 +254,7 @@ impl State {
     }
 
     pub fn drop(self, nand: &mut [u8], nor: &[u8], slots: u64) -> Answer
-        ensures { λ r. ⌜ answered (r .number) (now (nand .exit)) (now (nor .entry)) (r .state)
+        ensures { λ r. ⌜ returned (r .number) (now (nand .exit)) (now (nor .entry)) (r .state)
             ≡ dropOutcome (world (now (nand .entry)) (now (nor .entry)) self) slots ⌝ }
     {
         let n = self.ground(Form::New, 0, nand.len(), nor.len(), slots);

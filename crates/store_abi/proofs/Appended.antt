@@ -8,19 +8,20 @@ use native.Mathlib.Omega.{arith}
 use lib.IntN.{ℤ}
 use lib.ListN.{length}
 use Rattle.codec.specs.Number.{numberAt}
-use Rattle.lift.specs.Limits.{loadOk, stored}
+use Rattle.lift.specs.Limits.{stored}
 use Rattle.tree.specs.Plan as Tree
 use Rattle.tree.specs.Writes.{Writes, writesOf, allWritten, bucketsAfter}
 use Rattle.grow.specs.declared.Plan.{Plan}
-use Rattle.grow.specs.Meaning.{meaning, Fitting}
+use Rattle.grow.specs.Inner.Meaning.{meaning, Fitting}
 use Rattle.store.specs.declared.State.{State}
 use Rattle.store.specs.World.{World, world}
-use Rattle.store.specs.Calls.{planOf, appendGround, appendOutcome}
-use Rattle.store.specs.Pieces.{Accepted, isPlain, carriedOut}
+use Rattle.store.specs.Calls.{appendGround, appendOutcome}
+use Rattle.store.specs.Inner.Pieces.{Accepted, isPlain, carriedOut}
 use Rattle.store.proofs.Grounds.{standing}
 use Rattle.store.proofs.Plain.{append-refused, append-carried, plain, plain-made}
-use Rattle.state_bytes.specs.StateBytes.{stateBytes, stateAs, stateIn, withLift}
-use Rattle.store_abi.specs.Areas.{left, kept, called, appendCalled}
+use Rattle.state_bytes.specs.StateBytes.{stateBytes, stateAs, stateIn}
+use Rattle.state_bytes.specs.Inner.Fields.{withLift}
+use Rattle.store_abi.specs.Areas.{left, called, appendCalled}
 use Rattle.store_abi.proofs.Leaves.{kept-old, right-length}
 
 -- what a plain lift needs of the area

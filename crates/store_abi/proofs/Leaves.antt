@@ -8,14 +8,15 @@ use lib.ListN.{length}
 use borrow.Author.Tests.{eq-eqb, ne-eqb}
 use Rattle.codec.specs.Number.{bytes}
 use Rattle.plate.specs.declared.Lookup.{Lookup}
-use Rattle.search.specs.Answers.{SearchAnswer, TallyAnswer}
+use Rattle.search.specs.Answers.{SearchAnswer}
+use Rattle.tally.specs.Answers.{TallyAnswer}
 use Rattle.store.specs.declared.State.{State}
 use Rattle.store.specs.World.{World, world}
 use Rattle.store.specs.Calls as Calls
 use Rattle.store.specs.Calls.{Outcome}
 use Rattle.state_bytes.specs.Signed.{sideBySide}
 use Rattle.state_bytes.specs.StateBytes.{stateBytes}
-use Rattle.store_abi.specs.Areas.{left, kept, leaves, newBytes, called, Answered, answered, answeredIn}
+use Rattle.store_abi.specs.Areas.{left, kept, leaves, newBytes, called, Answered, replied, repliedIn}
 
 pub kept-new : (n : ℕ) (new old : List ℕ) → n ≡ 0 → kept n new old ≡ new
 kept-new n new old e = ap (λ (k : ℕ). kept k new old) e
@@ -52,7 +53,7 @@ unfolding called
 wrong-length area nand nor o h = unfitting _ _ area nand nor o (ne-eqb (length area) 783 h)
 
 pub right-length : (area nand nor area' nand' nor' : List ℕ) (n r : ℕ) (s : State) (o : Outcome) → length area ≡ 783 → r ≡ n
-    → area' ≡ kept n (stateBytes s) area → Calls.answered n nand' nor' s ≡ o → left r area' nand' nor' ≡ called area nand nor o
+    → area' ≡ kept n (stateBytes s) area → Calls.returned n nand' nor' s ≡ o → left r area' nand' nor' ≡ called area nand nor o
 unfolding called
 right-length area nand nor area' nand' nor' n r s o h e f g =
     fitting _ newBytes area nand nor o area' n r (world nand' nor' s) (eq-eqb (length area) 783 h) e f g
@@ -67,29 +68,29 @@ one-right m n a b h = sym (ap (λ t. cond t a b) (eq-eqb m n h))
 
 module _ (area answer : List ℕ) (n : ℕ) (rows : List ℕ) (a : Answered) where
   by : (t : Bool) → (eqb (length area) 783 && eqb (length answer) n) ≡ t
-      → cond t a (answered 20 rows answer) ≡ answeredIn area answer n rows a
-  unfolding answeredIn
-  by t e = sym (ap (λ u. cond u a (answered 20 rows answer)) e)
+      → cond t a (replied 20 rows answer) ≡ repliedIn area answer n rows a
+  unfolding repliedIn
+  by t e = sym (ap (λ u. cond u a (replied 20 rows answer)) e)
 
-  pub state-wrong : (length area ≡ 783 → ⊥) → answered 20 rows answer ≡ answeredIn area answer n rows a
+  pub state-wrong : (length area ≡ 783 → ⊥) → replied 20 rows answer ≡ repliedIn area answer n rows a
   state-wrong h = by false (first-wrong (length area) 783 (length answer) n h)
 
-  pub answer-wrong : length area ≡ 783 → (length answer ≡ n → ⊥) → answered 20 rows answer ≡ answeredIn area answer n rows a
+  pub answer-wrong : length area ≡ 783 → (length answer ≡ n → ⊥) → replied 20 rows answer ≡ repliedIn area answer n rows a
   answer-wrong e h = by false (second-wrong (length area) 783 (length answer) n e h)
 
-  pub both-right : length area ≡ 783 → length answer ≡ n → a ≡ answeredIn area answer n rows a
+  pub both-right : length area ≡ 783 → length answer ≡ n → a ≡ repliedIn area answer n rows a
   both-right e h = by true (both-equal (length area) 783 (length answer) n e h)
 
 pub search-left : (o : SearchAnswer) (n c : ℕ) (rows answer answer' : List ℕ)
     → _≡_ {A = SearchAnswer} (record { number = n; count = c; area = rows }) o → answer' ≡ kept n (bytes 8 c) answer
-    → answered n rows answer' ≡ answered (o .number) (o .area) (kept (o .number) (bytes 8 (o .count)) answer)
+    → replied n rows answer' ≡ replied (o .number) (o .area) (kept (o .number) (bytes 8 (o .count)) answer)
 search-left o n c rows answer answer' e f = rw (f, ← e)
 
 pub tally-left : (o : TallyAnswer) (n : ℕ) (counts answer answer' : List ℕ)
     → _≡_ {A = TallyAnswer} (record { number = n; counts = counts }) o → answer' ≡ kept n (sideBySide (bytes 8) counts) answer
-    → answered n [] answer' ≡ answered (o .number) [] (kept (o .number) (sideBySide (bytes 8) (o .counts)) answer)
+    → replied n [] answer' ≡ replied (o .number) [] (kept (o .number) (sideBySide (bytes 8) (o .counts)) answer)
 tally-left o n counts answer answer' e f = rw (f, ← e)
 
 pub plate-left : (p o : Lookup) (answer answer' : List ℕ) → p ≡ o → answer' ≡ kept (p .number) (bytes 8 (p .plate)) answer
-    → answered (p .number) [] answer' ≡ answered (o .number) [] (kept (o .number) (bytes 8 (o .plate)) answer)
+    → replied (p .number) [] answer' ≡ replied (o .number) [] (kept (o .number) (bytes 8 (o .plate)) answer)
 plate-left p o answer answer' e f = rw (f, e)

@@ -3,21 +3,19 @@
 -- store and its state and writes a second one. Assumes nothing.
 use mathlib.Core.Bool.{Bool, cond, _&&_}
 use mathlib.Core.List.{List, []}
-use Prim.Native.Nat.{ℕ}
+use Prim.Native.Nat.{ℕ, _*_}
 use lib.Dec.{eqb}
 use lib.IntN.{ℤ}
 use lib.ListN.{length}
 use Rattle.codec.specs.Number.{bytes}
-use Rattle.plate.specs.Plate.{lookup}
-use Rattle.form.specs.declared.Form.the-variants.{New}
-use Rattle.search.specs.Answers.{SearchAnswer, TallyAnswer}
-use Rattle.store.specs.declared.State.{State}
+use Rattle.plate.specs.Plate.{lookup, plates}
+use Rattle.form.specs.declared.Form.the-variants.{Old, New}
 use Rattle.store.specs.World.{World, world}
 use Rattle.store.specs.Calls.{Outcome, formatOutcome, appendOutcome, closeOutcome, dropOutcome}
-use Rattle.store.specs.Queries.{searchOutcome, tallyOutcome}
+use Rattle.questions.specs.Queries.{searchOutcome, tallyOutcome}
 use Rattle.state_bytes.specs.Signed.{sideBySide}
 use Rattle.conversion.specs.Outcome.{forwardOutcome, backwardOutcome}
-use Rattle.state_bytes.specs.StateBytes.{stateBytes, stateIn, oldStateBytes, oldStateIn}
+use Rattle.state_bytes.specs.StateBytes.{stateBytes, stateIn, oldStateBytes, oldStateIn, areaLength}
 
 -- what a call that writes leaves: its number, the state's area and both chips
 pub record Left : Type 0 where
@@ -49,7 +47,7 @@ oldBytes w = oldStateBytes (record { state = w .state; live = w .live })
 -- ---- calls on one store
 
 unfoldable pub called : List ℕ → List ℕ → List ℕ → Outcome → Left
-called area nand nor o = leaves (eqb (length area) 783) newBytes area nand nor o
+called area nand nor o = leaves (eqb (length area) (areaLength New)) newBytes area nand nor o
 
 unfoldable pub formatCalled : List ℕ → List ℕ → List ℕ → ℕ → Left
 formatCalled area nand nor slots = called area nand nor (formatOutcome New nand nor slots)
@@ -69,13 +67,13 @@ dropCalled area nand nor slots = called area nand nor (dropOutcome (world nand n
 -- from form 0, the area `old`, into form 1, the area `area`
 unfoldable pub forwardCalled : List ℕ → List ℕ → List ℕ → ℕ → List ℕ → List ℕ → List ℕ → Left
 forwardCalled old nand nor slots area toNand toNor =
-    leaves (eqb (length old) 775 && eqb (length area) 783) newBytes area toNand toNor
+    leaves (eqb (length old) (areaLength Old) && eqb (length area) (areaLength New)) newBytes area toNand toNor
     (forwardOutcome nand nor (oldStateIn old) slots toNand toNor)
 
 -- and back
 unfoldable pub backwardCalled : List ℕ → List ℕ → List ℕ → ℕ → List ℕ → List ℕ → List ℕ → Left
 backwardCalled area nand nor slots old toNand toNor =
-    leaves (eqb (length area) 783 && eqb (length old) 775) oldBytes old toNand toNor
+    leaves (eqb (length area) (areaLength New) && eqb (length old) (areaLength Old)) oldBytes old toNand toNor
     (backwardOutcome nand nor (stateIn area) slots toNand toNor)
 
 -- ---- calls that answer
@@ -86,28 +84,28 @@ pub record Answered : Type 0 where
   pub rows : List ℕ
   pub answer : List ℕ
 
-abbrev pub answered : ℕ → List ℕ → List ℕ → Answered
-answered number rows answer = record { number = number; rows = rows; answer = answer }
+abbrev pub replied : ℕ → List ℕ → List ℕ → Answered
+replied number rows answer = record { number = number; rows = rows; answer = answer }
 
 -- number 20, before everything else: the state's area has another length, or the answer's area another than n
-unfoldable pub answeredIn : List ℕ → List ℕ → ℕ → List ℕ → Answered → Answered
-answeredIn area answer n rows a = cond (eqb (length area) 783 && eqb (length answer) n) a (answered 20 rows answer)
+unfoldable pub repliedIn : List ℕ → List ℕ → ℕ → List ℕ → Answered → Answered
+repliedIn area answer n rows a = cond (eqb (length area) (areaLength New) && eqb (length answer) n) a (replied 20 rows answer)
 
 -- the count in 8 bytes
 unfoldable pub searchCalled : List ℕ → List ℕ → List ℕ → ℕ → ℕ → ℕ → ℤ → ℤ → List ℕ → List ℕ → Answered
 searchCalled area nand nor slots t1 t2 k1 k2 rows answer =
     let o = searchOutcome (world nand nor (stateIn area)) slots t1 t2 k1 k2 rows in
-    answeredIn area answer 8 rows (answered (o .number) (o .area) (kept (o .number) (bytes 8 (o .count)) answer))
+    repliedIn area answer 8 rows (replied (o .number) (o .area) (kept (o .number) (bytes 8 (o .count)) answer))
 
 -- 21 counts of 8 bytes
 unfoldable pub tallyCalled : List ℕ → List ℕ → List ℕ → ℕ → ℕ → ℕ → List ℕ → Answered
 tallyCalled area nand nor slots t1 t2 answer =
     let o = tallyOutcome (world nand nor (stateIn area)) slots t1 t2 in
-    answeredIn area answer 168 [] (answered (o .number) [] (kept (o .number) (sideBySide (bytes 8) (o .counts)) answer))
+    repliedIn area answer (8 * plates) [] (replied (o .number) [] (kept (o .number) (sideBySide (bytes 8) (o .counts)) answer))
 
 -- the plate in 8 bytes
 unfoldable pub plateCalled : ℤ → List ℕ → Answered
 plateCalled load answer =
     cond (eqb (length answer) 8)
-    (answered (lookup load .number) [] (kept (lookup load .number) (bytes 8 (lookup load .plate)) answer))
-    (answered 20 [] answer)
+    (replied (lookup load .number) [] (kept (lookup load .number) (bytes 8 (lookup load .plate)) answer))
+    (replied 20 [] answer)

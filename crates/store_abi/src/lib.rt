@@ -2,21 +2,27 @@
 // area of 8-byte numbers. Each call returns its number; 20 where one of these areas has another length, before everything else.
 use conversion::OldAnswer;
 use grow::Plan;
+use lift::NOTE_BYTES;
+use plate::PLATES;
 use store::Answer;
 use store::State;
+use store::append::pieces;
 ghost use mathlib.Core.Path.{_≡_};
 ghost use mathlib.Core.Bool.{true};
 ghost use mathlib.Core.List.{[]};
 ghost use Prim.Native.Nat.{_≤_};
 ghost use lib.ListN.{length};
-ghost use Rattle.codec.specs.Area.{splice};
+ghost use Rattle.form.specs.declared.Form.the-variants.{Old, New};
+ghost use Rattle.tree.specs.Rules.{bucketsMost};
+ghost use Rattle.lift.specs.Rows.{liftsMost};
 ghost use Rattle.codec.specs.Number.{bytes, numberAt};
 ghost use Rattle.lift.specs.Limits.{loadOk, stored};
 ghost use Rattle.tree.specs.Writes.{writesOf, allWritten, bucketsAfter};
-ghost use Rattle.grow.specs.Meaning.{meaning, Fitting};
+ghost use Rattle.grow.specs.Inner.Meaning.{meaning, Fitting};
 ghost use Rattle.state_bytes.specs.Signed.{sideBySide};
-ghost use Rattle.state_bytes.specs.StateBytes.{stateBytes, oldStateBytes, stateIn, withLift};
-ghost use Rattle.store_abi.specs.Areas.{left, kept, answered};
+ghost use Rattle.state_bytes.specs.StateBytes.{stateBytes, oldStateBytes, stateIn, areaLength};
+ghost use Rattle.state_bytes.specs.Inner.Fields.{withLift};
+ghost use Rattle.store_abi.specs.Areas.{left, kept, replied};
 ghost use Rattle.store_abi.specs.Areas.{formatCalled, appendCalled, closeCalled, dropCalled};
 ghost use Rattle.store_abi.specs.Areas.{forwardCalled, backwardCalled};
 ghost use Rattle.store_abi.specs.Areas.{searchCalled, tallyCalled, plateCalled};
@@ -26,11 +32,11 @@ const AREA_LENGTH: u8 = 20;
 // A count, or a plate.
 const NUMBER_BYTES: usize = 8;
 // A tally's counts.
-const COUNTS_BYTES: usize = 168;
+const COUNTS_BYTES: usize = 8 * PLATES;
 
 // The next state goes into its area if the call was accepted.
 fn keep_state(area: &mut [u8], a: Answer) -> u8
-    requires { ⌜ length (now area) ≡ 783 ⌝ }
+    requires { ⌜ length (now area) ≡ areaLength New ⌝ }
     ensures number { λ r. ⌜ r ≡ a .number ⌝ }
     ensures state { λ _. ⌜ now (area .exit) ≡ kept (a .number) (stateBytes (a .state)) (now (area .entry)) ⌝ }
 {
@@ -43,7 +49,7 @@ fn keep_state(area: &mut [u8], a: Answer) -> u8
 
 // The same for a state of form 0.
 fn keep_old_state(area: &mut [u8], o: OldAnswer) -> u8
-    requires { ⌜ length (now area) ≡ 775 ⌝ }
+    requires { ⌜ length (now area) ≡ areaLength Old ⌝ }
     ensures number { λ r. ⌜ r ≡ o .number ⌝ }
     ensures state { λ _. ⌜ now (area .exit) ≡ kept (o .number) (oldStateBytes (o .state)) (now (area .entry)) ⌝ }
 {
@@ -64,7 +70,7 @@ fn keep_number(answer: &mut [u8], number: u8, value: u64)
     }
 }
 
-fn put_counts(answer: &mut [u8], counts: [u64; 21])
+fn put_counts(answer: &mut [u8], counts: [u64; PLATES])
     requires { ⌜ length (now answer) ≡ 168 ⌝ }
     ensures { λ _. ⌜ now (answer .exit) ≡ sideBySide (bytes 8) counts ⌝ }
 {
@@ -77,7 +83,7 @@ fn put_counts(answer: &mut [u8], counts: [u64; 21])
 }
 
 // The counts go into the area of the answer if the tally was accepted.
-fn keep_counts(answer: &mut [u8], number: u8, counts: [u64; 21])
+fn keep_counts(answer: &mut [u8], number: u8, counts: [u64; PLATES])
     requires { ⌜ length (now answer) ≡ 168 ⌝ }
     ensures { λ _. ⌜ now (answer .exit) ≡ kept number (sideBySide (bytes 8) counts) (now (answer .entry)) ⌝ }
 {
@@ -106,10 +112,10 @@ fn put_plain(
     buckets: u8,
     time: u64,
     load: i32,
-    note: [u8; 20],
+    note: [u8; NOTE_BYTES],
     p: Plan,
 )
-    requires { ⌜ (length (now state) ≡ 783) × (numberAt (now state) 8 2 ≤ 320) × (4608 ≤ length (now nor)) × (buckets ≤ 36)
+    requires { ⌜ (length (now state) ≡ areaLength New) × (numberAt (now state) 8 2 ≤ liftsMost) × (4608 ≤ length (now nor)) × (buckets ≤ bucketsMost)
         × Fitting buckets p ⌝ }
     requires { ⌜ loadOk load ≡ true ⌝ }
     ensures nor { λ _. ⌜ now (nor .exit) ≡ allWritten (now (nor .entry)) (writesOf (meaning p) buckets (stored load) count) ⌝ }
@@ -131,7 +137,7 @@ pub extern "C" fn store_append(
     slots: u64,
     time: u64,
     load: i32,
-    note: &[u8; 20],
+    note: &[u8; NOTE_BYTES],
 ) -> u8
     ensures { λ r. ⌜ left r (now (state .exit)) (now (nand .exit)) (now (nor .exit))
         ≡ appendCalled (now (state .entry)) (now (nand .entry)) (now (nor .entry)) slots time load (now (note .entry)) ⌝ }
@@ -141,17 +147,17 @@ pub extern "C" fn store_append(
     }
     let n = *note;
     let s = state_bytes::get_state(state);
-    let a = s.planned(nand, nor, slots, time, load);
+    let a = pieces::plan_append(s, nand, nor, slots, time, load);
     let m = a.number;
     if m != 0 {
         return m;
     }
     let p = a.plan;
-    if s.is_plain(slots, p) {
+    if pieces::is_plain(s, slots, p) {
         put_plain(state, nor, s.count, s.buckets, time, load, n, p);
         return 0;
     }
-    let t = s.carried_out(nand, nor, slots, time, load, n, p);
+    let t = pieces::carried_out(s, nand, nor, slots, time, load, n, p);
     state_bytes::put_state(state, t);
     0
 }
@@ -195,7 +201,7 @@ pub extern "C" fn store_search(
     rows: &mut [u8],
     answer: &mut [u8],
 ) -> u8
-    ensures { λ r. ⌜ answered r (now (rows .exit)) (now (answer .exit))
+    ensures { λ r. ⌜ replied r (now (rows .exit)) (now (answer .exit))
         ≡ searchCalled (now (state .entry)) (now (nand .entry)) (now (nor .entry)) slots t1 t2 k1 k2 (now (rows .entry))
         (now (answer .entry)) ⌝ }
 {
@@ -206,7 +212,7 @@ pub extern "C" fn store_search(
         return AREA_LENGTH;
     }
     let s = state_bytes::get_state(state);
-    let f = s.search(nand, nor, slots, t1, t2, k1, k2, rows);
+    let f = questions::search(s, nand, nor, slots, t1, t2, k1, k2, rows);
     keep_number(answer, f.number, f.count);
     f.number
 }
@@ -221,7 +227,7 @@ pub extern "C" fn store_tally(
     t2: u64,
     answer: &mut [u8],
 ) -> u8
-    ensures { λ r. ⌜ answered r [] (now (answer .exit))
+    ensures { λ r. ⌜ replied r [] (now (answer .exit))
         ≡ tallyCalled (now (state .entry)) (now (nand .entry)) (now (nor .entry)) slots t1 t2 (now (answer .entry)) ⌝ }
 {
     if state.len() != state_bytes::STATE_BYTES {
@@ -231,7 +237,7 @@ pub extern "C" fn store_tally(
         return AREA_LENGTH;
     }
     let s = state_bytes::get_state(state);
-    let t = s.tally(nand, nor, slots, t1, t2);
+    let t = questions::tally(s, nand, nor, slots, t1, t2);
     let counts = t.counts;
     keep_counts(answer, t.number, counts);
     t.number
@@ -239,7 +245,7 @@ pub extern "C" fn store_tally(
 
 #[no_mangle]
 pub extern "C" fn store_plate(load: i32, answer: &mut [u8]) -> u8
-    ensures { λ r. ⌜ answered r [] (now (answer .exit)) ≡ plateCalled load (now (answer .entry)) ⌝ }
+    ensures { λ r. ⌜ replied r [] (now (answer .exit)) ≡ plateCalled load (now (answer .entry)) ⌝ }
 {
     if answer.len() != NUMBER_BYTES {
         return AREA_LENGTH;

@@ -1,10 +1,13 @@
 // What the program prints.
+use crate::Trial;
 use crate::digest;
 use store::State;
 
 const STDOUT: i32 = 1;
 
 const HEX_DIGITS: usize = 16;
+
+const PLATES: usize = 21;
 
 pub fn text(s: &[u8]) {
     io::write_all(STDOUT, s);
@@ -20,7 +23,7 @@ pub fn item(s: &[u8], n: u64) {
     io::print_decimal(STDOUT, n);
 }
 
-pub fn hash(s: &[u8], h: u64) {
+fn hash(s: &[u8], h: u64) {
     io::write_all(STDOUT, s);
     io::print_hex(STDOUT, h, HEX_DIGITS);
 }
@@ -40,10 +43,37 @@ pub fn chips(nand: &[u8], nor: &[u8]) {
     end_line();
 }
 
-// A case: its name, the number of its last call, and what it leaves.
-pub fn case(name: &[u8], number: u8, s: State, nand: &[u8], nor: &[u8]) {
-    text(name);
-    item(b": number=", number as u64);
-    fields(s);
+// What a call left: its number, the state's serials, counts and time, and the chips.
+pub fn state(nand: &[u8], nor: &[u8], t: Trial) {
+    item(b": number=", t.number as u64);
+    fields(t.state);
     chips(nand, nor);
+}
+
+// What a search found, with the hash of its result area.
+pub fn rows(t: Trial) {
+    item(b": number=", t.number as u64);
+    item(b" found=", t.found);
+    hash(b" area=", t.area);
+    end_line();
+}
+
+pub fn number(n: u64) {
+    item(b" ", n);
+}
+
+fn plates(n: [u64; PLATES]) {
+    let mut p: usize = 0;
+    while p < PLATES {
+        number(n[p]);
+        p += 1;
+    }
+}
+
+// What a tally counted.
+pub fn counts(t: Trial) {
+    item(b": number=", t.number as u64);
+    let n = t.counts;
+    plates(n);
+    end_line();
 }

@@ -9,24 +9,27 @@ use native.Mathlib.Omega.{arith}
 use lib.Dec.{ltb, eqb}
 use lib.ListN.{length, getD}
 use borrow.Author.Tests.{ltb-true}
-use Rattle.bitset.specs.Set.{members, picked, elem}
-use Rattle.bitset.proofs.Set.{Below, members-inserted-all}
+use Rattle.codec.proofs.Truth.{and-parts}
+use Rattle.bitset.specs.Set.{picked, elem}
+use Rattle.bitset.specs.Inner.Words.{members, Below}
+use Rattle.bitset.proofs.Set.{members-inserted-all}
 use Rattle.bitset.proofs.Picked.{picked-same}
-use Rattle.tree.specs.Rules.{Entry, Bucket, treeOf, Loads}
+use Rattle.tree.specs.Rules.{Entry, Bucket, treeOf}
+use Rattle.tree.specs.Inner.Loads.{Loads}
 use Rattle.tree.specs.Bytes.{treeBytes}
 use Rattle.tree.specs.Reading.{kidsOf, nodeGood, positionsGood}
-use Rattle.tree.specs.Search.{within, hits, find, reached}
+use Rattle.tree.specs.Search.{within, hits, reached}
+use Rattle.tree.specs.Inner.Find.{find}
 use Rattle.tree.specs.Sweep.{recordsGood, andThen, nodeAt, visitGood, sweepFrom, sweepOn}
 use Rattle.tree.proofs.Descent.{if, none-some}
-use Rattle.tree.proofs.Clears.{both}
 use Rattle.tree.proofs.Looked.{sound}
 use Rattle.tree.proofs.Found.{find-elem}
 use Rattle.tree.proofs.Swept.{sweep-built}
 use Rattle.sweep.specs.declared.Range.{Range}
 use Rattle.sweep.specs.declared.Records.{Records}
 use Rattle.sweep.specs.declared.Sweep.{Sweep}
-use Rattle.sweep.specs.Swept.{sweptOf}
-use Rattle.sweep.specs.Turns.{codesOf}
+use Rattle.sweep.specs.Inner.Swept.{sweptOf}
+use Rattle.sweep.specs.Inner.Turns.{codesOf}
 
 -- ---- positions below a bound
 
@@ -42,7 +45,7 @@ hits-below : (k1 k2 count : ℕ) (es : List Entry) → positionsGood count es �
 unfolding hits positionsGood
 hits-below k1 k2 count [] g = tt
 hits-below k1 k2 count (e ∷ es) g =
-    let t = both (ltb (e .position) count) (positionsGood count es) g in
+    let t = and-parts (ltb (e .position) count) (positionsGood count es) g in
     go (within k1 k2 (e .load)) (ltb-true (e .position) count (t .0)) (hits-below k1 k2 count es (t .1))
   where
     go : (q : Bool) → e .position < count → Below count (hits k1 k2 es)
@@ -61,7 +64,7 @@ module _ (area : List ℕ) (buckets count : ℕ) (codes : ℕ → ℕ) (k1 k2 : 
   visited-below b g =
       let n = nodeAt area buckets count codes k1 k2 b in
       hits-below k1 k2 count (n .entries)
-      (sound n b buckets count (both (nodeGood n b buckets count) (recordsGood codes k1 k2 (n .entries)) g .0) .positions)
+      (sound n b buckets count (and-parts (nodeGood n b buckets count) (recordsGood codes k1 k2 (n .entries)) g .0) .positions)
 
   from-below : (n b : ℕ) (r : ℕ → Bool) (ps : List ℕ) → sweepFrom area buckets count codes k1 k2 n b r ≡ some ps → Below count ps
   unfolding sweepFrom

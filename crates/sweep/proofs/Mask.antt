@@ -10,8 +10,8 @@ use Rattle.bitset.proofs.Digits.{bit-zero, or-same, or-other}
 use Rattle.tree.specs.Bytes.{noMid}
 use Rattle.tree.specs.Reading.{childAt, kidsOf}
 use Rattle.tree.specs.Search.{reachedWith, reached}
-use Rattle.tree.specs.Seen.{headOf}
-use Rattle.sweep.specs.Turns.{isDue}
+use Rattle.tree.specs.Inner.Seen.{headOf}
+use Rattle.sweep.specs.Inner.Turns.{isDue}
 
 -- bit c is set
 pub due-more : (due c j : ℕ) → isDue (bitOr due (2 ^ c)) j ≡ cond (eqb j c) true (isDue due j)

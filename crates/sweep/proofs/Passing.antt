@@ -8,17 +8,17 @@ use native.Mathlib.Omega.{arith}
 use lib.Dec.{ltb, eqb}
 use lib.ListN.{length}
 use borrow.Author.Tests.{ltb-true}
-use Rattle.bitset.specs.Set.{insertIn, insertAll}
+use Rattle.codec.proofs.Truth.{and-assoc, and-parts, and-true}
+use Rattle.bitset.specs.Inner.Words.{insertIn, insertAll}
 use Rattle.bitset.specs.declared.Bits.{Bits}
 use Rattle.tree.specs.Rules.{Entry}
 use Rattle.tree.specs.Reading.{entryIn, entriesFrom, positionsGood}
 use Rattle.tree.specs.Search.{within, hits}
 use Rattle.tree.specs.Sweep.{recordsGood}
-use Rattle.tree.proofs.Clears.{both}
-use Rattle.tree.proofs.Looked.{and-true, and-assoc, entries-few, entries-some}
+use Rattle.tree.proofs.Looked.{entries-few, entries-some}
 use Rattle.sweep.specs.declared.Range.{Range}
 use Rattle.sweep.specs.declared.Sweep.{Sweep}
-use Rattle.sweep.specs.Turns.{withEntry, withEntries}
+use Rattle.sweep.specs.Inner.Turns.{withEntry, withEntries}
 
 empty : (es : List Entry) → length es ≡ 0 → es ≡ []
 empty [] h = refl
@@ -58,7 +58,7 @@ module _ (bucket : List ℕ) (count used : ℕ) (codes : ℕ → ℕ) (r : Range
     judged : i < used
         → (ltb (entryIn bucket i .position) count ≡ true) × (positionsGood count (entriesFrom bucket (13 - i - 1) (i + 1)) ≡ true)
     unfolding positionsGood
-    judged h = both (ltb (entryIn bucket i .position) count) _ (rw (next h) at (p .good))
+    judged h = and-parts (ltb (entryIn bucket i .position) count) _ (rw (next h) at (p .good))
 
     -- the position of the next entry is a lift's
     pub position-below : i < used → (i < 13) × (entryIn bucket i .position < count)

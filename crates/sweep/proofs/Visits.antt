@@ -11,7 +11,8 @@ use native.Mathlib.Omega.{arith}
 use lib.Dec.{leb, ltb}
 use lib.ListN.{length}
 use borrow.Author.Tests.{ltb-true, ne-eqb}
-use Rattle.bitset.specs.Set.{emptyWords, insertIn, insertAll}
+use Rattle.codec.proofs.Truth.{and-parts}
+use Rattle.bitset.specs.Inner.Words.{emptyWords, insertIn, insertAll}
 use Rattle.bitset.specs.declared.Bits.{Bits}
 use Rattle.tree.specs.Bytes.{noMid}
 use Rattle.tree.specs.Rules.{Entry}
@@ -19,16 +20,15 @@ use Rattle.tree.specs.Reading as Reading
 use Rattle.tree.specs.Reading.{bucketAt, entriesFrom, nodeIn, childAt, kidsOf, childGood, kidsGood, positionsGood, nodeGood}
 use Rattle.tree.specs.Search.{reached, hits}
 use Rattle.tree.specs.Sweep.{recordsGood, andThen, sweepFrom, sweepOn}
-use Rattle.tree.specs.Seen.{headOf, seenNode}
-use Rattle.tree.proofs.Clears.{both}
+use Rattle.tree.specs.Inner.Seen.{headOf, seenNode}
 use Rattle.tree.proofs.Looked.{sound}
 use Rattle.tree.specs.declared.Node.{Node}
 use Rattle.sweep.specs.declared.Range.{Range}
 use Rattle.sweep.specs.declared.Records.{Records}
 use Rattle.sweep.specs.declared.Sweep.{Sweep}
 use Rattle.sweep.specs.declared.Turn.{Turn}
-use Rattle.sweep.specs.Swept.{noneSwept, sweptFrom, sweptOf}
-use Rattle.sweep.specs.Turns.{isDue, HasBit, codesOf, withEntries, leadsTo, onward}
+use Rattle.sweep.specs.Inner.Swept.{noneSwept, sweptFrom, sweptOf}
+use Rattle.sweep.specs.Inner.Turns.{isDue, HasBit, codesOf, withEntries, leadsTo, onward}
 use Rattle.sweep.proofs.Mask.{due-root}
 use Rattle.sweep.proofs.Passing.{entries-are}
 
@@ -37,7 +37,7 @@ use Rattle.sweep.proofs.Passing.{entries-are}
 child-bit : (b buckets c : ℕ) → buckets ≤ 36 → childGood b buckets (childAt c) ≡ true → HasBit c
 child-bit b buckets c few e h =
     let g : (ltb b c && ltb c buckets) ≡ true = rw (ne-eqb c 255 h) at e in
-    omega (arith, ltb-true c buckets (both (ltb b c) (ltb c buckets) g .1))
+    omega (arith, ltb-true c buckets (and-parts (ltb b c) (ltb c buckets) g .1))
 
 -- what the code relies on in a bucket that it opens
 pub record Opened (bucket : List ℕ) (count : ℕ) (n : Node) : Type 0 where
@@ -63,7 +63,7 @@ module _ (bucket : List ℕ) (b buckets count : ℕ) (n : Node) (few : buckets �
           let one : Bool = childGood b buckets (childAt (m .left)) in
           let two : Bool = childGood b buckets (childAt (m .right)) in
           let a : (ltb (m .x) (m .mid) && leb (m .mid) (m .y) && (one && two)) ≡ true = rw (ne-eqb (m .mid) noMid h) at e in
-          let d = both one two (both (ltb (m .x) (m .mid) && leb (m .mid) (m .y)) (one && two) a .1) in
+          let d = and-parts one two (and-parts (ltb (m .x) (m .mid) && leb (m .mid) (m .y)) (one && two) a .1) in
           (child-bit b buckets (m .left) few (d .0), child-bit b buckets (m .right) few (d .1))
 
 -- ---- sets
@@ -111,7 +111,7 @@ module _ (tree : List ℕ) (codes : ℕ → ℕ) (g : Records) (r : Range) (b : 
     pub turn-spoilt : node .good ≡ false → (u : Turn) → u .good ≡ false → (n : ℕ) → Turns u n
     unfolding onward sweepFrom
     turn-spoilt e u f n =
-        let d = both (t .good) (isDue (t .due) b) due in
+        let d = and-parts (t .good) (isDue (t .due) b) due in
         rw (f, d .0, d .1, good-is, e)
 
     pub turn-opens : node .good ≡ true → (more : ℕ) (found : Sweep)
@@ -121,7 +121,7 @@ module _ (tree : List ℕ) (codes : ℕ → ℕ) (g : Records) (r : Range) (b : 
         → (n : ℕ) → Turns (record { good = found .good; due = more; set = found .set }) n
     unfolding onward sweepFrom seenNode nodeIn kidsOf
     turn-opens e more found reaches finds n =
-        let d = both (t .good) (isDue (t .due) b) due in
+        let d = and-parts (t .good) (isDue (t .due) b) due in
         let es : List Entry = entriesFrom (bucketAt tree b) 13 0 in
         let same : isDue more ≡ reached (r .k1) (r .k2) (kidsOf (nodeIn (bucketAt tree b))) (isDue (t .due)) =
         fun-ext (rw is at reaches) in

@@ -7,12 +7,13 @@ ghost use mathlib.Core.Option.{some};
 ghost use mathlib.Core.List.{[]};
 ghost use Prim.Native.Nat.{ℕ, suc, _+_, _-_, _≤_, _<_};
 ghost use lib.ListN.{length};
+ghost use Rattle.tree.specs.Rules.{entriesMost};
 ghost use Rattle.tree.specs.Bytes.{noMid};
 ghost use Rattle.tree.specs.Reading.{entryIn, entriesFrom, childAt, kidsOf, positionsGood};
 ghost use Rattle.tree.specs.Search.{within, reachedWith, reached};
-ghost use Rattle.tree.specs.Seen.{headOf};
-ghost use Rattle.sweep.specs.Swept.{sweptOf, Recorded, Held};
-ghost use Rattle.sweep.specs.Turns.{isDue, HasBit, codesOf, withEntry, withEntries, leadsTo, onward};
+ghost use Rattle.tree.specs.Inner.Seen.{headOf};
+ghost use Rattle.sweep.specs.Inner.Swept.{sweptOf, Recorded, Held};
+ghost use Rattle.sweep.specs.Inner.Turns.{isDue, HasBit, codesOf, withEntry, withEntries, leadsTo, onward};
 
 // Stored loads from k1 to k2.
 pub struct Range {
@@ -89,7 +90,7 @@ fn entry_at(
     r: Range,
     s: Sweep,
 ) -> Sweep
-    requires { ⌜ (i < 13) × (128 ≤ length (now bucket)) × (entryIn (now bucket) i .position < g .count) ⌝ }
+    requires { ⌜ (i < entriesMost) × (128 ≤ length (now bucket)) × (entryIn (now bucket) i .position < g .count) ⌝ }
     requires { ⌜ Recorded (now lifts) (now tail) g ⌝ }
     ensures { λ q. ⌜ q ≡ withEntry (codesOf (now (lifts .entry)) (now (tail .entry)) g) r (entryIn (now (bucket .entry)) i) s ⌝ }
 {

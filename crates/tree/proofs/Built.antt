@@ -10,7 +10,8 @@ use lib.ListN.{length, drop, length-append, length-drop}
 use lib.Seq.{drop-append-le, drop-drop}
 use borrow.Author.Tests.{ltb-false}
 use Rattle.tree.specs.Rules.{Entry, Bucket, Kids, whole, split, at, descend, allocate, put, lastLoads, insert, insertMore}
-use Rattle.tree.specs.Rules.{treeOf, needsBucket36, bucketsOf, root, Loads}
+use Rattle.tree.specs.Rules.{treeOf, needsBucket36, bucketsOf, root}
+use Rattle.tree.specs.Inner.Loads.{Loads}
 use Rattle.tree.proofs.Held.{Good, Housed, Both, Inv}
 use Rattle.tree.proofs.Descent.{if, none-some}
 use Rattle.tree.proofs.Insert.{insert-inv, empty-inv}

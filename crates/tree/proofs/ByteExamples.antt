@@ -10,6 +10,7 @@ use Rattle.lift.specs.Limits.{stored}
 use Rattle.split.specs.Split.{overlap, rule, bring, mid, sum, weighed, slope, fitted, lowFrom, highFrom, low, high, midpoint}
 use Rattle.tree.specs.Rules.{Bucket, split}
 use Rattle.tree.specs.Search.{hits}
+use Rattle.tree.specs.Place.{bucketStart}
 use Rattle.tree.specs.Bytes.{places, entryBytes, bucketBytes, treeBytes}
 use Rattle.tree.specs.Reading.{bucketAt, entriesFrom, nodeIn, kidsOf, positionsGood, nodeGood}
 use Rattle.tree.specs.Sweep.{recordsGood, sweepFrom, sweepOn}
@@ -27,7 +28,7 @@ good-nodes :
     × (nodeGood (nodeIn (bucketBytes narrow)) 7 8 13 ≡ false)
     × (nodeGood (nodeIn (bucketBytes narrow)) 6 7 13 ≡ false)
     × (nodeGood (nodeIn (bucketBytes narrow)) 6 8 12 ≡ false)
-unfolding treeBytes places bucketBytes entryBytes nodeIn entriesFrom kidsOf positionsGood nodeGood part repeated le bytes
+unfolding bucketStart treeBytes places bucketBytes entryBytes nodeIn entriesFrom kidsOf positionsGood nodeGood part repeated le bytes
 good-nodes = (refl, refl, refl, refl, refl)
 
 -- a search of the bytes, and one where a record has another load
@@ -35,7 +36,7 @@ sweeps :
     (sweepOn (treeBytes grown) 3 15 (λ p. getD (rising ++ (50901 ∷ 50756 ∷ [])) p 0) 50601 50901
     ≡ some (10 ∷ 11 ∷ 12 ∷ 13 ∷ 14 ∷ []))
     × (sweepOn (treeBytes grown) 3 15 (λ p. getD rising p 0) 50601 50901 ≡ none)
-unfolding treeBytes places bucketBytes entryBytes nodeIn entriesFrom kidsOf positionsGood nodeGood part repeated le bytes
+unfolding bucketStart treeBytes places bucketBytes entryBytes nodeIn entriesFrom kidsOf positionsGood nodeGood part repeated le bytes
     sweepOn sweepFrom recordsGood hits
 sweeps = (refl, refl)
 
@@ -44,12 +45,12 @@ abbrev plan : Plan
 plan = planOn (treeBytes thirteen) 1 13 (equal 13) 50501
 
 planned : plan ≡ splitBucket 0 50501 12 0 50501
-unfolding treeBytes places bucketBytes entryBytes nodeIn entriesFrom kidsOf positionsGood nodeGood part repeated le bytes
+unfolding bucketStart treeBytes places bucketBytes entryBytes nodeIn entriesFrom kidsOf positionsGood nodeGood part repeated le bytes
     planOn planFrom midpoint mid overlap rule bring low high lowFrom highFrom fitted slope sum weighed stored
 planned = refl
 
 after-writes :
     (allClear (treeBytes thirteen) (writesOf (splitBucket 0 50501 12 0 50501) 1 50501 13) ≡ true)
     × (allWritten (treeBytes thirteen) (writesOf (splitBucket 0 50501 12 0 50501) 1 50501 13) ≡ treeBytes fourteen)
-unfolding treeBytes places bucketBytes entryBytes part splice repeated bytes allOnes writesOf allClear allWritten
+unfolding bucketStart treeBytes places bucketBytes entryBytes part splice repeated bytes allOnes writesOf allClear allWritten
 after-writes = (refl, refl)

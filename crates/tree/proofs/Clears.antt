@@ -13,19 +13,17 @@ use Rattle.codec.specs.Area.{allOnes}
 use Rattle.codec.specs.Number.{bytes}
 use Rattle.codec.proofs.Areas.{length-splice, part-after}
 use Rattle.codec.proofs.Numbers.{length-bytes}
+use Rattle.codec.proofs.Truth.{and-parts}
 use Rattle.split.specs.Split.{midpoint}
 use Rattle.flash.specs.Clears.{OnlyClears}
 use Rattle.flash.proofs.Clearing.{clears-trans, clears-number}
 use Rattle.tree.specs.Rules.{Kids, whole, split, next}
 use Rattle.tree.specs.Reading.{bucketAt, Node, nodeIn, kidsOf, childGood, kidsGood, positionsGood, nodeGood}
 use Rattle.tree.specs.Plan.{Plan, damaged, noRoom, newRoot, intoBucket, newChild, splitBucket}
-use Rattle.tree.specs.Plan.{planHere, planFrom, fitted, planOn}
+use Rattle.tree.specs.Plan.{planHere, planFrom, orNoRoom, planOn}
 use Rattle.tree.specs.Writes.{Write, Writes, writesOf, isClear, allClear, written, allWritten}
 use Rattle.tree.proofs.Descent.{if, none-some}
-
-pub both : (a b : Bool) → (a && b) ≡ true → (a ≡ true) × (b ≡ true)
-both true b e = (refl, e)
-both false b e = let z : false ≡ true = e in absurd (let y : _≡_ {A = ℕ} 0 1 = cc in omega arith)
+use Rattle.tree.proofs.Starts.{bucket-start}
 
 -- ---- a plan names buckets and places that are there; a new bucket's number n is below k
 
@@ -54,13 +52,13 @@ child-below : (b buckets : ℕ) (o : Option ℕ) (c : ℕ) → childGood b bucke
 child-below b buckets none c g e = none-some e
 child-below b buckets (some d) c g e =
     let q : d ≡ c = cc in
-    omega (arith, ltb-true d buckets (both (ltb b d) (ltb d buckets) g .1))
+    omega (arith, ltb-true d buckets (and-parts (ltb b d) (ltb d buckets) g .1))
 
 pub next-below : (b buckets x y : ℕ) (k : Kids) (l c : ℕ) → kidsGood b buckets x y k ≡ true → next k l ≡ some c → c < buckets
 next-below b buckets x y whole l c g e = none-some e
 next-below b buckets x y (split m left right) l c g e =
-    let s = both (childGood b buckets left) (childGood b buckets right)
-    (both (ltb x m && leb m y) (childGood b buckets left && childGood b buckets right) g .1) in
+    let s = and-parts (childGood b buckets left) (childGood b buckets right)
+    (and-parts (ltb x m && leb m y) (childGood b buckets left && childGood b buckets right) g .1) in
     if (leb l m)
     (λ f. child-below b buckets left c (s .0) (rw f at e))
     (λ f. child-below b buckets right c (s .1) (rw f at e))
@@ -69,8 +67,8 @@ pub good-kids : (n : Node) (b buckets count : ℕ) → nodeGood n b buckets coun
     → kidsGood b buckets (n .x) (n .y) (kidsOf n) ≡ true
 unfolding nodeGood
 good-kids n b buckets count e =
-    both (ltb (n .x) (n .y) && leb (n .y) 150001) (kidsGood b buckets (n .x) (n .y) (kidsOf n))
-    (both _ (positionsGood count (n .entries)) e .0)
+    and-parts (ltb (n .x) (n .y) && leb (n .y) 150001) (kidsGood b buckets (n .x) (n .y) (kidsOf n))
+    (and-parts _ (positionsGood count (n .entries)) e .0)
     .1
 
 module _ (area : List ℕ) (buckets count : ℕ) (loads : List ℕ) (l : ℕ) where
@@ -95,7 +93,7 @@ module _ (area : List ℕ) (buckets count : ℕ) (loads : List ℕ) (l : ℕ) wh
           let s = good-kids (nodeIn (bucketAt area b)) b buckets count g in
           k c (next-below b buckets _ _ (kidsOf (nodeIn (bucketAt area b))) l c s e)
 
-  fitted-within : (p : Plan) → Within (suc buckets) buckets p → Within 36 buckets (fitted buckets p)
+  fitted-within : (p : Plan) → Within (suc buckets) buckets p → Within 36 buckets (orNoRoom buckets p)
   fitted-within damaged w = tt
   fitted-within noRoom w = tt
   fitted-within newRoot w = tt
@@ -130,11 +128,11 @@ pub record Rising (ws : Writes) : Type 0 where
 pub writes-rise : (plan : Plan) (n l p : ℕ) → n ≤ 36 → Within 36 n plan → Rising (writesOf plan n l p)
 unfolding writesOf
 writes-rise damaged n l p h w = omega arith
-writes-rise noRoom n l p h w = omega arith
-writes-rise newRoot n l p h w = omega arith
-writes-rise (intoBucket b i) n l p h w = omega arith
-writes-rise (newChild b side x y) n l p h w = omega arith
-writes-rise (splitBucket b m side x y) n l p h w = omega arith
+writes-rise noRoom n l p h w = omega (arith, bucket-start 0)
+writes-rise newRoot n l p h w = omega (arith, bucket-start 0)
+writes-rise (intoBucket b i) n l p h w = omega (arith, bucket-start b)
+writes-rise (newChild b side x y) n l p h w = omega (arith, bucket-start b, bucket-start n)
+writes-rise (splitBucket b m side x y) n l p h w = omega (arith, bucket-start b, bucket-start n)
 
 -- ---- only bits are cleared
 
@@ -157,9 +155,9 @@ pub clears-all : (nor : List ℕ) (ws : Writes) → 4608 ≤ length nor → Risi
     → OnlyClears nor (allWritten nor ws)
 unfolding allClear allWritten
 clears-all nor ws h r e =
-    let e₄ = both (isClear nor (ws .mid) && isClear nor (ws .child) && isClear nor (ws .range)) (isClear nor (ws .entry)) e in
-    let e₃ = both (isClear nor (ws .mid) && isClear nor (ws .child)) (isClear nor (ws .range)) (e₄ .0) in
-    let e₂ = both (isClear nor (ws .mid)) (isClear nor (ws .child)) (e₃ .0) in
+    let e₄ = and-parts (isClear nor (ws .mid) && isClear nor (ws .child) && isClear nor (ws .range)) (isClear nor (ws .entry)) e in
+    let e₃ = and-parts (isClear nor (ws .mid) && isClear nor (ws .child)) (isClear nor (ws .range)) (e₄ .0) in
+    let e₂ = and-parts (isClear nor (ws .mid)) (isClear nor (ws .child)) (e₃ .0) in
     let n₁ : List ℕ = written nor (ws .mid) in
     let n₂ : List ℕ = written n₁ (ws .child) in
     let n₃ : List ℕ = written n₂ (ws .range) in

@@ -8,7 +8,8 @@ use Rattle.lift.specs.Limits.{stored}
 use Rattle.split.specs.Split.{overlap, rule, bring, mid, sum, weighed, slope, fitted, lowFrom, highFrom, low, high, midpoint}
 use Rattle.tree.specs.Rules.{Entry, Bucket, whole, split, root, descend, allocate, put, lastLoads, insert, insertMore}
 use Rattle.tree.specs.Rules.{treeOf}
-use Rattle.tree.specs.Search.{hits, findFrom, find}
+use Rattle.tree.specs.Search.{hits}
+use Rattle.tree.specs.Inner.Find.{findFrom, find}
 
 -- entries from position p on
 abbrev pub entries : ℕ → List ℕ → List Entry

@@ -11,12 +11,12 @@ use native.Mathlib.Omega.{arith}
 use lib.ListN.{length}
 use Rattle.codec.specs.Area.{part, splice, repeated, allOnes}
 use Rattle.codec.specs.Number.{bytes}
-use Rattle.codec.proofs.Areas.{part-repeated, ones-repeated}
+use Rattle.codec.proofs.Areas.{part-repeated, ones-repeated, splice-right}
 use Rattle.codec.proofs.Numbers.{length-bytes}
 use Rattle.tree.specs.Rules.{Entry, Bucket, Kids, whole, split, added}
 use Rattle.tree.specs.Bytes.{places, entryBytes, bucketBytes}
 use Rattle.tree.specs.Writes.{pair}
-use Rattle.tree.proofs.Places.{splice-right, write-new, place-free}
+use Rattle.tree.proofs.Places.{write-new, place-free}
 use Rattle.tree.proofs.Coded.{length-entry, headBytes, length-head, within-entry}
 
 -- two numbers side by side are one number

@@ -9,8 +9,10 @@ use lib.Dec.{ltb, eqb}
 use lib.ListN.{length, getD}
 use borrow.Author.Tests.{eqb-true, eqb-false, lt-ltb, eq-eqb, ne-eqb}
 use Rattle.bitset.specs.Set.{elem}
-use Rattle.tree.specs.Rules.{Bucket, treeOf, Loads}
-use Rattle.tree.specs.Search.{within, find, times}
+use Rattle.tree.specs.Rules.{Bucket, treeOf}
+use Rattle.tree.specs.Inner.Loads.{Loads}
+use Rattle.tree.specs.Search.{within}
+use Rattle.tree.specs.Inner.Find.{find, times}
 use Rattle.tree.proofs.Descent.{if}
 use Rattle.tree.proofs.Search.{find-exact}
 

@@ -9,8 +9,10 @@ use native.Mathlib.Omega.{arith}
 use lib.Dec.{eqb}
 use lib.ListN.{length, getD}
 use borrow.Author.Tests.{eqb-true, eq-eqb, ne-eqb}
-use Rattle.tree.specs.Rules.{Entry, Bucket, at, treeOf, Loads}
-use Rattle.tree.specs.Search.{within, hits, times}
+use Rattle.tree.specs.Rules.{Entry, Bucket, at, treeOf}
+use Rattle.tree.specs.Inner.Loads.{Loads}
+use Rattle.tree.specs.Search.{within, hits}
+use Rattle.tree.specs.Inner.Find.{times}
 use Rattle.tree.proofs.Held.{Way, start, down, Housed, Both, home, Inv}
 use Rattle.tree.proofs.Descent.{step}
 use Rattle.tree.proofs.Built.{built-inv}

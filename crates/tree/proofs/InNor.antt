@@ -10,7 +10,8 @@ use lib.ListN.{length, length-append, replicate-append-replicate}
 use Rattle.codec.specs.Area.{repeated}
 use Rattle.flash.specs.Chip.{chipErased, norTree}
 use Rattle.flash.specs.Clears.{OnlyClears}
-use Rattle.tree.specs.Rules.{Bucket, at, treeOf, lastLoads, needsBucket36, Loads}
+use Rattle.tree.specs.Rules.{Bucket, at, treeOf, lastLoads, needsBucket36}
+use Rattle.tree.specs.Inner.Loads.{Loads}
 use Rattle.tree.specs.Bytes.{treeBytes}
 use Rattle.tree.specs.Plan.{Plan, planOn, isDamaged, isNoRoom}
 use Rattle.tree.specs.Writes.{writesOf, bucketsAfter, allClear, allWritten}

@@ -15,10 +15,11 @@ use Rattle.codec.specs.Number.{bytes}
 use Rattle.split.specs.Split.{midpoint}
 use Rattle.split.proofs.Midpoint.{midpoint-within}
 use Rattle.tree.specs.Rules.{Entry, Bucket, Kids, whole, split, root, at, descend, added, linked, withChild}
-use Rattle.tree.specs.Rules.{allocate, put, lastLoads, insert, treeOf, needsBucket36, Loads}
+use Rattle.tree.specs.Rules.{allocate, put, lastLoads, insert, treeOf, needsBucket36}
+use Rattle.tree.specs.Inner.Loads.{Loads}
 use Rattle.tree.specs.Bytes.{treeBytes}
 use Rattle.tree.specs.Plan.{Plan, noRoom, newRoot, intoBucket, newChild, splitBucket}
-use Rattle.tree.specs.Plan.{planHere, fitted, planOn, isDamaged, isNoRoom}
+use Rattle.tree.specs.Plan.{planHere, orNoRoom, planOn, isDamaged, isNoRoom}
 use Rattle.tree.specs.Writes.{midWrite, childWrite, rangeWrite, entryWrite, writesOf, bucketsAfter}
 use Rattle.tree.specs.Writes.{allClear, written, allWritten}
 use Rattle.tree.proofs.Held.{Halves, Both, home, Housed, Inv}
@@ -210,7 +211,7 @@ module _ (ls hs : List ℕ) (t : List Bucket) (v : Inv ls hs t) (open-end : leng
 
   put-outcome : (i : ℕ) → End t l i → (k : Kids) → at t i .kids ≡ k
       → Outcome t rest l (length ls) (put t i (midpoint (at t i .x) (at t i .y) (lastLoads ls)) entry k)
-      (fitted (length t) (planHere (nodeOf (at t i)) i loads l k))
+      (orNoRoom (length t) (planHere (nodeOf (at t i)) i loads l k))
   unfolding put allocate
   put-outcome i z whole e =
       let m : ℕ = midpoint (at t i .x) (at t i .y) (lastLoads ls) in

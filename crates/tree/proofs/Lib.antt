@@ -19,3 +19,4 @@ pub mod Clears
 pub mod ByteExamples
 pub mod Looked
 pub mod InNor
+pub mod Starts

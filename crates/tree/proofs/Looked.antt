@@ -9,21 +9,13 @@ use native.Mathlib.Omega.{arith}
 use lib.Dec.{ltb, leb, eqb}
 use lib.ListN.{length}
 use borrow.Author.Tests.{eq-eqb, ne-eqb, ltb-true, leb-true}
+use Rattle.codec.proofs.Truth.{and-assoc, and-parts, and-true}
 use Rattle.codec.specs.Number.{numberAt}
 use Rattle.tree.specs.Bytes.{noMid}
 use Rattle.tree.specs.Reading as Reading
 use Rattle.tree.specs.Reading.{entryIn, entriesFrom, childAt, childGood, kidsOf, kidsGood, positionsGood, nodeIn, nodeGood}
-use Rattle.tree.specs.Seen.{headOf, seenNode}
-use Rattle.tree.proofs.Clears.{both}
+use Rattle.tree.specs.Inner.Seen.{headOf, seenNode}
 use Rattle.tree.specs.declared.Node.{Node}
-
-pub and-true : (a : Bool) → (a && true) ≡ a
-and-true true = refl
-and-true false = refl
-
-pub and-assoc : (a b c : Bool) → ((a && b) && c) ≡ (a && (b && c))
-and-assoc true b c = refl
-and-assoc false b c = refl
 
 -- ---- the entries
 
@@ -128,9 +120,9 @@ unfolding nodeGood
 sound n b buckets count e =
     let range : Bool = ltb (n .x) (n .y) && leb (n .y) 150001 in
     let kids : Bool = kidsGood b buckets (n .x) (n .y) (kidsOf n) in
-    let p = both (range && kids) (positionsGood count (n .entries)) e in
-    let k = both range kids (p .0) in
-    let r = both (ltb (n .x) (n .y)) (leb (n .y) 150001) (k .0) in
+    let p = and-parts (range && kids) (positionsGood count (n .entries)) e in
+    let k = and-parts range kids (p .0) in
+    let r = and-parts (ltb (n .x) (n .y)) (leb (n .y) 150001) (k .0) in
     record {
       wide = ltb-true (n .x) (n .y) (r .0);
       top = leb-true (n .y) 150001 (r .1);

@@ -2,33 +2,13 @@
 -- entries and buckets. The idea: a write goes past the places before its own. Assumes nothing.
 use Prim.Native.Nat.{ℕ, zero, suc, _+_, _-_, _*_, _≤_, _<_}
 use mathlib.Core.Path.{_≡_, sym, ap, _∙_}
-use mathlib.Core.List.{List, [], _∷_, _++_, append-assoc}
+use mathlib.Core.List.{List, [], _∷_, _++_}
 use native.Mathlib.Nat.{mul-zero, mul-suc, mul-le-mul-left}
 use native.Mathlib.Omega.{arith}
-use lib.ListN.{length, getD, take, drop, set, length-append, replicate-append-replicate}
-use lib.Seq.{take-append-le, drop-append-le, take-append-add, drop-append-add}
+use lib.ListN.{length, getD, set, length-append, replicate-append-replicate}
 use Rattle.codec.specs.Area.{part, splice, repeated}
-use Rattle.codec.proofs.Areas.{part-all, part-append-left, part-append-right, length-repeated, part-repeated}
+use Rattle.codec.proofs.Areas.{part-all, part-append-left, part-append-right, length-repeated, part-repeated, splice-left, splice-right}
 use Rattle.tree.specs.Bytes.{places}
-
--- ---- a write into one of two joined areas
-
-pub splice-left : (p q : List ℕ) (at : ℕ) (r : List ℕ) → at + length r ≤ length p → splice (p ++ q) at r ≡ splice p at r ++ q
-unfolding splice
-splice-left p q at r h =
-    rw (
-      take-append-le at p q (omega arith),
-      drop-append-le (at + length r) p q h,
-      append-assoc (take at p ++ r) (drop (at + length r) p) q,
-    )
-
-pub splice-right : (p q : List ℕ) (k to : ℕ) (r : List ℕ) → length p + k ≡ to → splice (p ++ q) to r ≡ p ++ splice q k r
-unfolding splice
-splice-right p q k to r e =
-    let d : to + length r ≡ length p + (k + length r) = omega arith in
-    rw (d, ← e, take-append-add p q k, drop-append-add p q (k + length r))
-    (ap (λ (s : List ℕ). s ++ drop (k + length r) q) (append-assoc p (take k q) r)
-    ∙ append-assoc p (take k q ++ r) (drop (k + length r) q))
 
 -- ---- bytes
 

@@ -10,7 +10,7 @@ use borrow.Author.Tests.{ne-eqb}
 use Rattle.tree.specs.Rules.{Bucket, Kids, at, next, descend}
 use Rattle.tree.specs.Bytes.{treeBytes}
 use Rattle.tree.specs.Reading.{Node}
-use Rattle.tree.specs.Plan.{Plan, planHere, planFrom, fitted, planOn}
+use Rattle.tree.specs.Plan.{Plan, planHere, planFrom, orNoRoom, planOn}
 use Rattle.tree.proofs.Held.{Inv}
 use Rattle.tree.proofs.Descent.{step}
 use Rattle.tree.proofs.Coded.{nodeOf}
@@ -44,7 +44,7 @@ module _ (ls hs : List ℕ) (t : List Bucket) (v : Inv ls hs t) (few : length ls
           k c (omega arith) (s .there) (s .low) (s .high)
 
   pub plan-inv : 0 < length t → 0 < length ls → length ls < 320 → 0 < l → l ≤ 150001
-      → planOn (treeBytes t) (length t) (length ls) loads l ≡ fitted (length t) (choice (descend (length t) t l 0))
+      → planOn (treeBytes t) (length t) (length ls) loads l ≡ orNoRoom (length t) (choice (descend (length t) t l 0))
   unfolding planOn
   plan-inv pos some-load open-end lo hi =
       rw (

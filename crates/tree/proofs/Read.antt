@@ -7,7 +7,8 @@ use mathlib.Core.List.{List, [], _∷_, List·Memᴰ, List·Memᴰ·head, List·
 use native.Mathlib.Omega.{arith}
 use lib.ListN.{length, getD}
 use borrow.Author.Tests.{lt-ltb, le-leb}
-use Rattle.tree.specs.Rules.{Entry, Bucket, Kids, whole, split, root, at, treeOf, Loads}
+use Rattle.tree.specs.Rules.{Entry, Bucket, Kids, whole, split, root, at, treeOf}
+use Rattle.tree.specs.Inner.Loads.{Loads}
 use Rattle.tree.specs.Bytes.{bucketBytes, treeBytes}
 use Rattle.tree.specs.Reading.{bucketAt, Node, nodeIn, kidsOf, childGood, kidsGood, positionsGood, nodeGood}
 use Rattle.tree.proofs.Held.{Child, Parts, Inv}
@@ -15,6 +16,7 @@ use Rattle.tree.proofs.Built.{built-inv}
 use Rattle.tree.proofs.Homes.{placed}
 use Rattle.tree.proofs.Places.{place-used}
 use Rattle.tree.proofs.Coded.{length-bucket, FitsChild, FitsKids, Fits, nodeOf, node-back, kids-back}
+use Rattle.tree.proofs.Starts.{bucket-start}
 
 entry-there : (es : List Entry) (i : ℕ) (d : Entry) → i < length es → List·Memᴰ (getD es i d) es
 entry-there [] i d h = absurd (omega arith)
@@ -83,7 +85,7 @@ module _ (ls hs : List ℕ) (t : List Bucket) (v : Inv ls hs t) (few : length ls
   reads-inv i h =
       let f = v .few in
       let e : nodeIn (bucketAt (treeBytes t) i) ≡ nodeOf (at t i) =
-      ap nodeIn (place-used 128 bucketBytes length-bucket 36 t (root []) i h (omega arith)) ∙ node-back (at t i) (fits-inv i) in
+      rw (bucket-start i) (ap nodeIn (place-used 128 bucketBytes length-bucket 36 t (root []) i h (omega arith)) ∙ node-back (at t i) (fits-inv i)) in
       record { same = e; kids = ap kidsOf e ∙ kids-back (at t i) (fits-inv i .kids); good = rw e (good-inv i) }
 
 -- every bucket of the tree of at most 320 loads, in its bytes

@@ -9,8 +9,10 @@ use native.Mathlib.Omega.{arith}
 use lib.Dec.{leb, ltb, eqb}
 use lib.ListN.{length, getD}
 use borrow.Author.Tests.{ltb-true, ltb-false, leb-true, leb-false, eqb-true, eqb-false, lt-ltb, le-leb, eq-eqb, ne-eqb}
-use Rattle.tree.specs.Rules.{Bucket, Kids, whole, split, at, next, treeOf, Loads}
-use Rattle.tree.specs.Search.{within, reachedWith, reached, hits, findFrom, find, times}
+use Rattle.tree.specs.Rules.{Bucket, Kids, whole, split, at, next, treeOf}
+use Rattle.tree.specs.Inner.Loads.{Loads}
+use Rattle.tree.specs.Search.{within, reachedWith, reached, hits}
+use Rattle.tree.specs.Inner.Find.{findFrom, find, times}
 use Rattle.tree.proofs.Held.{Way, start, down, Child, Parts, Good, Housed, Inv}
 use Rattle.tree.proofs.Descent.{if, none-some}
 use Rattle.tree.proofs.Homes.{both-at, times-bucket, times-past}

@@ -9,8 +9,10 @@ use native.Mathlib.Omega.{arith}
 use lib.Dec.{eqb}
 use lib.ListN.{length, getD}
 use borrow.Author.Tests.{eq-eqb}
-use Rattle.tree.specs.Rules.{Entry, Bucket, at, treeOf, Loads}
-use Rattle.tree.specs.Search.{within, reached, findFrom, find}
+use Rattle.tree.specs.Rules.{Entry, Bucket, at, treeOf}
+use Rattle.tree.specs.Inner.Loads.{Loads}
+use Rattle.tree.specs.Search.{within, reached}
+use Rattle.tree.specs.Inner.Find.{findFrom, find}
 use Rattle.tree.specs.Bytes.{treeBytes}
 use Rattle.tree.specs.Reading.{Node, nodeIn, bucketAt}
 use Rattle.tree.specs.Sweep.{recordsGood, visitGood, sweepFrom, sweepOn}

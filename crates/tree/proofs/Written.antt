@@ -10,16 +10,18 @@ use lib.ListN.{length, set, length-append}
 use lib.Seq.{set-append-seam, getD-append-seam}
 use Rattle.codec.specs.Area.{part, splice, repeated, allOnes}
 use Rattle.codec.specs.Number.{bytes}
-use Rattle.codec.proofs.Areas.{part-all, part-add, part-part, part-append-left, part-repeated, ones-repeated}
+use Rattle.codec.proofs.Areas.{part-all, part-add, part-part, part-append-left, part-repeated, ones-repeated, splice-left}
 use Rattle.codec.proofs.Numbers.{length-bytes}
 use Rattle.tree.specs.Rules.{Entry, Bucket, Kids, whole, split, root, at, added, linked}
-use Rattle.tree.specs.Bytes.{bucketBytes, treeBytes, bucketPage, bucketOffset}
+use Rattle.tree.specs.Place.{bucketStart}
+use Rattle.tree.specs.Bytes.{bucketBytes, treeBytes}
 use Rattle.tree.specs.Writes.{pair, midWrite, childWrite, rangeWrite, entryWrite, isClear, written}
-use Rattle.tree.proofs.Places.{Bytes, bytes-places, splice-left, length-places, places-none, rest-free}
+use Rattle.tree.proofs.Places.{Bytes, bytes-places, length-places, places-none, rest-free}
 use Rattle.tree.proofs.Places.{place-used, place-free, write-used, write-new}
 use Rattle.tree.proofs.Coded.{length-bucket, bytes-bucket}
 use Rattle.tree.proofs.Fields.{bucket, mid-written, left-written, right-written, range-written, added-written}
 use Rattle.tree.proofs.Fields.{mid-clear, whole-clear, left-clear, right-clear, entry-clear}
+use Rattle.tree.proofs.Starts.{bucket-start}
 
 pub length-tree : (t : List Bucket) → length (treeBytes t) ≡ 4608
 unfolding treeBytes
@@ -68,10 +70,6 @@ tree-of-nor t rest =
     let l = length-tree t in
     part-append-left (treeBytes t) rest 0 4608 (omega arith) ∙ part-all (treeBytes t) 4608 l
 
--- the one rule from a bucket's number to its page and offset, in pages from 20 on
-pub bucket-start : (b : ℕ) → 512 * (bucketPage b - 20) + bucketOffset b ≡ 128 * b
-bucket-start b = omega arith
-
 -- a bucket with the mid m, and no child yet
 abbrev pub halved : Bucket → ℕ → Bucket
 halved b m = bucket (b .x) (b .y) (split m none none) (b .entries)
@@ -101,31 +99,33 @@ module _ (t : List Bucket) (few : length t ≤ 36) (rest : List ℕ) where
   -- ---- what stands in a place
 
   part-used : (i off n : ℕ) → i < length t → off + n ≤ 128
-      → part (treeBytes t ++ rest) (128 * i + off) n ≡ part (bucketBytes (at t i)) off n
+      → part (treeBytes t ++ rest) (bucketStart i + off) n ≡ part (bucketBytes (at t i)) off n
   unfolding treeBytes
   part-used i off n h k =
       let l = length-tree t in
-      part-append-left (treeBytes t) rest (128 * i + off) n (omega arith)
+      rw (bucket-start i)
+      (part-append-left (treeBytes t) rest (128 * i + off) n (omega arith)
       ∙ sym (part-part (treeBytes t) (128 * i) 128 off n (omega arith) k)
-      ∙ ap (λ (s : List ℕ). part s off n) (place-used 128 bucketBytes length-bucket 36 t (root []) i h (omega arith))
+      ∙ ap (λ (s : List ℕ). part s off n) (place-used 128 bucketBytes length-bucket 36 t (root []) i h (omega arith)))
 
   part-free : (i off n : ℕ) → length t ≤ i → i < 36 → off + n ≤ 128
-      → part (treeBytes t ++ rest) (128 * i + off) n ≡ repeated n 255
+      → part (treeBytes t ++ rest) (bucketStart i + off) n ≡ repeated n 255
   unfolding treeBytes
   part-free i off n h u k =
       let l = length-tree t in
-      part-append-left (treeBytes t) rest (128 * i + off) n (omega arith)
+      rw (bucket-start i)
+      (part-append-left (treeBytes t) rest (128 * i + off) n (omega arith)
       ∙ sym (part-part (treeBytes t) (128 * i) 128 off n (omega arith) k)
       ∙ ap (λ (s : List ℕ). part s off n) (place-free 128 bucketBytes length-bucket 36 t i h u)
-      ∙ part-repeated 128 255 off n k
+      ∙ part-repeated 128 255 off n k)
 
   clear-free : (i off n : ℕ) → length t ≤ i → i < 36 → off + n ≤ 128
-      → allOnes (part (treeBytes t ++ rest) (128 * i + off) n) ≡ true
+      → allOnes (part (treeBytes t ++ rest) (bucketStart i + off) n) ≡ true
   clear-free i off n h u k = ap allOnes (part-free i off n h u k) ∙ ones-repeated n
 
   pub clear-range : (i x y : ℕ) → length t ≤ i → i < 36 → isClear (treeBytes t ++ rest) (rangeWrite i x y) ≡ true
   clear-range i x y h u =
-      let z : 128 * i + 0 ≡ 128 * i = omega arith in
+      let z : bucketStart i + 0 ≡ bucketStart i = omega arith in
       ap (λ (j : ℕ). allOnes (part (treeBytes t ++ rest) j 8)) (sym z) ∙ clear-free i 0 8 h u (omega arith)
 
   pub clear-first : (i l p : ℕ) → length t ≤ i → i < 36 → isClear (treeBytes t ++ rest) (entryWrite i 0 l p) ≡ true
@@ -171,21 +171,23 @@ module _ (t : List Bucket) (few : length t ≤ 36) (rest : List ℕ) where
 
   used : (i off : ℕ) (r : List ℕ) (b : Bucket) → i < length t → off + length r ≤ 128
       → splice (bucketBytes (at t i)) off r ≡ bucketBytes b
-      → splice (treeBytes t ++ rest) (128 * i + off) r ≡ treeBytes (set t i b) ++ rest
+      → splice (treeBytes t ++ rest) (bucketStart i + off) r ≡ treeBytes (set t i b) ++ rest
   unfolding treeBytes
   used i off r b h k e =
       let l = length-tree t in
-      splice-left (treeBytes t) rest (128 * i + off) r (omega arith)
-      ∙ ap (λ (s : List ℕ). s ++ rest) (write-used 128 bucketBytes length-bucket off r b k 36 t (root []) i h (omega arith) e)
+      rw (bucket-start i)
+      (splice-left (treeBytes t) rest (128 * i + off) r (omega arith)
+      ∙ ap (λ (s : List ℕ). s ++ rest) (write-used 128 bucketBytes length-bucket off r b k 36 t (root []) i h (omega arith) e))
 
   new : (off : ℕ) (r : List ℕ) (b : Bucket) → length t < 36 → off + length r ≤ 128
       → splice (repeated 128 255) off r ≡ bucketBytes b
-      → splice (treeBytes t ++ rest) (128 * length t + off) r ≡ treeBytes (t ++ (b ∷ [])) ++ rest
+      → splice (treeBytes t ++ rest) (bucketStart (length t) + off) r ≡ treeBytes (t ++ (b ∷ [])) ++ rest
   unfolding treeBytes
   new off r b h k e =
       let l = length-tree t in
-      splice-left (treeBytes t) rest (128 * length t + off) r (omega arith)
-      ∙ ap (λ (s : List ℕ). s ++ rest) (write-new 128 bucketBytes length-bucket off r b k 36 t h e)
+      rw (bucket-start (length t))
+      (splice-left (treeBytes t) rest (128 * length t + off) r (omega arith)
+      ∙ ap (λ (s : List ℕ). s ++ rest) (write-new 128 bucketBytes length-bucket off r b k 36 t h e))
 
   pub written-entry : (i l p : ℕ) → i < length t → length (at t i .entries) < 13 → l < 4294967296
       → written (treeBytes t ++ rest) (entryWrite i (length (at t i .entries)) l p)
@@ -212,7 +214,7 @@ module _ (t : List Bucket) (few : length t ≤ 36) (rest : List ℕ) where
       → written (treeBytes t ++ rest) (rangeWrite (length t) x y) ≡ treeBytes (t ++ (bucket x y whole [] ∷ [])) ++ rest
   written-range x y h b =
       let n = length-bytes 8 (pair x y) in
-      let z : 128 * length t + 0 ≡ 128 * length t = omega arith in
+      let z : bucketStart (length t) + 0 ≡ bucketStart (length t) = omega arith in
       ap (λ (j : ℕ). splice (treeBytes t ++ rest) j (bytes 8 (pair x y))) (sym z)
       ∙ new 0 (bytes 8 (pair x y)) (bucket x y whole []) h (omega arith) (range-written x y b)
 

@@ -6,4 +6,4 @@ pub mod Sweep
 pub mod Plan
 pub mod Writes
 pub mod Place
-pub mod Seen
+pub mod Inner

@@ -6,9 +6,11 @@ use mathlib.Core.Option.{none, some}
 use mathlib.Core.List.{List}
 use lib.Dec.{leb, ltb, eqb}
 use lib.ListN.{length}
+use Rattle.lift.specs.Rows.{liftsMost}
 use Rattle.split.specs.Split.{midpoint}
-use Rattle.tree.specs.Rules.{Kids, whole, split, next}
+use Rattle.tree.specs.Rules.{Kids, whole, split, next, bucketsMost, entriesMost}
 use Rattle.tree.specs.Reading.{bucketAt, Node, nodeIn, kidsOf, nodeGood}
+use Rattle.tree.specs.Bytes.{leftAt, rightAt}
 
 pub data Plan : Type 0 where
   -- damage on the path
@@ -26,7 +28,7 @@ pub data Plan : Type 0 where
 
 -- "left and right child (1 each ..)": bytes 12 and 13 of a bucket
 abbrev pub sideByte : ℕ → ℕ → ℕ
-sideByte l m = cond (leb l m) 12 13
+sideByte l m = cond (leb l m) leftAt rightAt
 
 -- the child's range, (x, m] on the left and (m, y] on the right
 abbrev pub lowEnd : ℕ → ℕ → ℕ → ℕ
@@ -39,7 +41,7 @@ highEnd l y m = cond (leb l m) m y
 abbrev pub planHere : Node → ℕ → List ℕ → ℕ → Kids → Plan
 planHere n b loads l whole =
     let m : ℕ = midpoint (n .x) (n .y) loads in
-    cond (ltb (length (n .entries)) 13) (intoBucket b (length (n .entries)))
+    cond (ltb (length (n .entries)) entriesMost) (intoBucket b (length (n .entries)))
     (splitBucket b m (sideByte l m) (lowEnd l (n .x) m) (highEnd l (n .y) m))
 planHere n b loads l (split m left right) = newChild b (sideByte l m) (lowEnd l (n .x) m) (highEnd l (n .y) m)
 
@@ -53,20 +55,20 @@ planFrom area buckets count loads l (suc steps) b =
     (elim (next (kidsOf n) l) [ none ↦ planHere n b loads l (kidsOf n) | some c ↦ planFrom area buckets count loads l steps c ])
     damaged
 
--- "needs bucket 36 (numbers run 0–35)"
-abbrev pub fitted : ℕ → Plan → Plan
-fitted buckets damaged = damaged
-fitted buckets noRoom = noRoom
-fitted buckets newRoot = newRoot
-fitted buckets (intoBucket b i) = intoBucket b i
-fitted buckets (newChild b side x y) = cond (ltb buckets 36) (newChild b side x y) noRoom
-fitted buckets (splitBucket b m side x y) = cond (ltb buckets 36) (splitBucket b m side x y) noRoom
+-- "needs bucket 36 (numbers run 0–35)": a plan for a new bucket, or no room for it
+abbrev pub orNoRoom : ℕ → Plan → Plan
+orNoRoom buckets damaged = damaged
+orNoRoom buckets noRoom = noRoom
+orNoRoom buckets newRoot = newRoot
+orNoRoom buckets (intoBucket b i) = intoBucket b i
+orNoRoom buckets (newChild b side x y) = cond (ltb buckets bucketsMost) (newChild b side x y) noRoom
+orNoRoom buckets (splitBucket b m side x y) = cond (ltb buckets bucketsMost) (splitBucket b m side x y) noRoom
 
 -- where the load l goes, in a tree of so many buckets and lifts, after these last loads
 unfoldable pub planOn : List ℕ → ℕ → ℕ → List ℕ → ℕ → Plan
 planOn area buckets count loads l =
     cond (eqb count 0) newRoot
-    (cond (eqb count 320) noRoom (fitted buckets (planFrom area buckets count loads l buckets 0)))
+    (cond (eqb count liftsMost) noRoom (orNoRoom buckets (planFrom area buckets count loads l buckets 0)))
 
 -- the plan stops at damage; the plan closes the segment first
 abbrev pub isDamaged : Plan → Bool

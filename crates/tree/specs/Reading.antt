@@ -1,28 +1,30 @@
 -- A bucket as it is read from any bytes, and the damage that may be met in it (document 01, "Search", last paragraph).
 -- Assumes nothing.
-use Prim.Native.Nat.{ℕ, zero, suc, _+_, _*_}
+use Prim.Native.Nat.{ℕ, zero, suc}
 use mathlib.Core.Bool.{Bool, true, cond, _&&_}
 use mathlib.Core.Option.{Option, none, some}
 use mathlib.Core.List.{List, [], _∷_}
 use lib.Dec.{leb, ltb, eqb}
+use Rattle.lift.specs.Limits.{codeMost}
 use Rattle.codec.specs.Area.{part}
 use Rattle.codec.specs.Number.{numberAt}
-use Rattle.tree.specs.Rules.{Entry, Kids, whole, split}
-use Rattle.tree.specs.Bytes.{noMid}
+use Rattle.tree.specs.Rules.{Entry, Kids, whole, split, entriesMost}
+use Rattle.tree.specs.Place.{bucketStart, bucketWidth}
+use Rattle.tree.specs.Bytes.{noMid, noChild, noPosition, midAt, leftAt, rightAt, entryAt, positionAt}
 
--- the 128 bytes of bucket b in the tree's area
+-- the bytes of bucket b in the tree's area
 abbrev pub bucketAt : List ℕ → ℕ → List ℕ
-bucketAt area b = part area (128 * b) 128
+bucketAt area b = part area (bucketStart b) bucketWidth
 
 -- entry i of a bucket's bytes
 abbrev pub entryIn : List ℕ → ℕ → Entry
-entryIn s i = record { load = numberAt s (24 + 8 * i) 4; position = numberAt s (28 + 8 * i) 2 }
+entryIn s i = record { load = numberAt s (entryAt i) 4; position = numberAt s (positionAt i) 2 }
 
 -- "entries end at the first with position 65,535": those in the n places from i on
 unfoldable pub entriesFrom : List ℕ → ℕ → ℕ → List Entry
 entriesFrom s zero i = []
 entriesFrom s (suc n) i =
-    cond (eqb (numberAt s (28 + 8 * i) 2) 65535) [] (entryIn s i ∷ entriesFrom s n (suc i))
+    cond (eqb (numberAt s (positionAt i) 2) noPosition) [] (entryIn s i ∷ entriesFrom s n (suc i))
 
 -- what stands in a bucket
 pub record Node : Type 0 where
@@ -38,15 +40,15 @@ nodeIn s =
     record {
       x = numberAt s 0 4;
       y = numberAt s 4 4;
-      mid = numberAt s 8 4;
-      left = numberAt s 12 1;
-      right = numberAt s 13 1;
-      entries = entriesFrom s 13 0;
+      mid = numberAt s midAt 4;
+      left = numberAt s leftAt 1;
+      right = numberAt s rightAt 1;
+      entries = entriesFrom s entriesMost 0;
     }
 
 -- "255 none"
 abbrev pub childAt : ℕ → Option ℕ
-childAt c = cond (eqb c 255) none (some c)
+childAt c = cond (eqb c noChild) none (some c)
 
 -- "A bucket is split once its mid is not all 255; only then are its children read."
 unfoldable pub kidsOf : Node → Kids
@@ -71,4 +73,4 @@ positionsGood count (e ∷ es) = ltb (e .position) count && positionsGood count 
 -- bucket b has no damage, in a tree of so many buckets and lifts; "a range outside x<y≤100,000" is damage
 unfoldable pub nodeGood : Node → ℕ → ℕ → ℕ → Bool
 nodeGood n b buckets count =
-    ltb (n .x) (n .y) && leb (n .y) 150001 && kidsGood b buckets (n .x) (n .y) (kidsOf n) && positionsGood count (n .entries)
+    ltb (n .x) (n .y) && leb (n .y) codeMost && kidsGood b buckets (n .x) (n .y) (kidsOf n) && positionsGood count (n .entries)

@@ -1,11 +1,12 @@
 -- The tree of a segment's loads, as a list of buckets (document 01, "Tree", first half). Loads and ranges are stored numbers:
 -- load + 50,001. Assumes nothing.
-use Prim.Native.Nat.{ℕ, zero, suc, _-_, _≤_, _<_}
+use Prim.Native.Nat.{ℕ, zero, suc, _-_}
 use mathlib.Core.Bool.{Bool, true, false, cond}
 use mathlib.Core.Option.{Option, none, some}
 use mathlib.Core.List.{List, [], _∷_, _++_}
 use lib.Dec.{leb, ltb}
 use lib.ListN.{length, getD, set, drop}
+use Rattle.lift.specs.Limits.{codeMost, loadsKept}
 use Rattle.split.specs.Split.{midpoint}
 
 -- "13 entries of 8: load 4, position 2": "A position is a lift's place in its segment, from 0."
@@ -26,9 +27,16 @@ pub record Bucket : Type 0 where
   pub kids : Kids
   pub entries : List Entry
 
+-- "numbers run 0–35"; "a bucket with 13 is full"
+abbrev pub bucketsMost : ℕ
+bucketsMost = 36
+
+abbrev pub entriesMost : ℕ
+entriesMost = 13
+
 -- "The root range is (−50,001, 100,000]."
 abbrev pub root : List Entry → Bucket
-root es = record { x = 0; y = 150001; kids = whole; entries = es }
+root es = record { x = 0; y = codeMost; kids = whole; entries = es }
 
 -- bucket i of a tree; past its end an empty root
 abbrev pub at : List Bucket → ℕ → Bucket
@@ -63,18 +71,18 @@ withChild t i q m left right e = set t i (linked (at t i) q m left right (length
 
 -- "A missing child is allocated with the next number." None where that is 36: "numbers run 0–35".
 unfoldable pub allocate : List Bucket → ℕ → ℕ → Option ℕ → Option ℕ → Entry → Option (List Bucket)
-allocate t i m left right e = cond (ltb (length t) 36) (some (withChild t i (leb (e .load) m) m left right e)) none
+allocate t i m left right e = cond (ltb (length t) bucketsMost) (some (withChild t i (leb (e .load) m) m left right e)) none
 
 -- The descent has ended at bucket i: the entry goes into an unsplit bucket that is not full ("a bucket with 13 is full"),
 -- or below a split one. "An unsplit full bucket is split" at m, "and the new child takes the entry."
 unfoldable pub put : List Bucket → ℕ → ℕ → Entry → Kids → Option (List Bucket)
 put t i m e whole =
-    cond (ltb (length (at t i .entries)) 13) (some (set t i (added (at t i) e))) (allocate t i m none none e)
+    cond (ltb (length (at t i .entries)) entriesMost) (some (set t i (added (at t i) e))) (allocate t i m none none e)
 put t i m e (split m′ left right) = allocate t i m′ left right e
 
 -- "the 13 loads before the new one": the last 13, oldest first; all where there are fewer
 unfoldable pub lastLoads : List ℕ → List ℕ
-lastLoads ls = drop (length ls - 13) ls
+lastLoads ls = drop (length ls - loadsKept) ls
 
 -- the tree t of the loads ls takes the load l; the first load makes the root. None where bucket 36 would be needed.
 unfoldable pub insert : List ℕ → List Bucket → ℕ → Option (List Bucket)
@@ -100,8 +108,3 @@ needsBucket36 ls l = elim (treeOf (ls ++ (l ∷ []))) [ none ↦ true | some t �
 -- the buckets of the loads' tree; none where there is no tree
 unfoldable pub bucketsOf : List ℕ → List Bucket
 bucketsOf ls = elim (treeOf ls) [ none ↦ [] | some t ↦ t ]
-
--- every load, as stored, is within the limits
-abbrev pub Loads : List ℕ → Type 0
-Loads [] = Unit {0}
-Loads (l ∷ ls) = (0 < l) × (l ≤ 150001) × Loads ls

@@ -1,12 +1,11 @@
 -- A search of a tree for the loads from k1 to k2 (document 01, "Search"), over its buckets in rising order of their numbers.
 -- Assumes nothing.
-use Prim.Native.Nat.{ℕ, zero, suc, _+_}
+use Prim.Native.Nat.{ℕ}
 use mathlib.Core.Bool.{Bool, true, false, cond, _&&_}
 use mathlib.Core.Option.{Option, none, some}
-use mathlib.Core.List.{List, [], _∷_, _++_}
+use mathlib.Core.List.{List, [], _∷_}
 use lib.Dec.{leb, ltb, eqb}
-use lib.ListN.{length}
-use Rattle.tree.specs.Rules.{Entry, Kids, whole, split, Bucket, at}
+use Rattle.tree.specs.Rules.{Entry, Kids, whole, split}
 
 -- a load from k1 to k2
 abbrev pub within : ℕ → ℕ → ℕ → Bool
@@ -28,18 +27,3 @@ reached k1 k2 (split m left right) r j = reachedWith (ltb m k2) right (reachedWi
 unfoldable pub hits : ℕ → ℕ → List Entry → List ℕ
 hits k1 k2 [] = []
 hits k1 k2 (e ∷ es) = cond (within k1 k2 (e .load)) (e .position ∷ hits k1 k2 es) (hits k1 k2 es)
-
--- the positions found in the n buckets from i on, where the buckets of the set r are reached
-unfoldable pub findFrom : ℕ → ℕ → List Bucket → ℕ → ℕ → (ℕ → Bool) → List ℕ
-findFrom k1 k2 t zero i r = []
-findFrom k1 k2 t (suc n) i r =
-    cond (r i) (hits k1 k2 (at t i .entries)) [] ++ findFrom k1 k2 t n (suc i) (cond (r i) (reached k1 k2 (at t i .kids) r) r)
-
--- the positions found from the root on
-unfoldable pub find : ℕ → ℕ → List Bucket → List ℕ
-find k1 k2 t = findFrom k1 k2 t (length t) 0 (λ j. eqb j 0)
-
--- how often p stands in a list
-unfoldable pub times : ℕ → List ℕ → ℕ
-times p [] = 0
-times p (q ∷ qs) = cond (eqb q p) 1 0 + times p qs

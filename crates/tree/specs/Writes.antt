@@ -3,9 +3,12 @@
 use Prim.Native.Nat.{ℕ, _+_, _*_}
 use mathlib.Core.Bool.{Bool, _&&_}
 use mathlib.Core.List.{List}
-use Rattle.codec.specs.Area.{part, splice, allOnes}
-use Rattle.codec.specs.Number.{bytes}
+use Rattle.lift.specs.Limits.{codeMost}
+use Rattle.codec.specs.Area.{part, allOnes}
+use Rattle.flash.specs.Chip.{norWritten}
+use Rattle.tree.specs.Place.{bucketStart}
 use Rattle.tree.specs.Plan.{Plan, damaged, noRoom, newRoot, intoBucket, newChild, splitBucket}
+use Rattle.tree.specs.Bytes.{midAt, entryAt}
 
 -- `len` bytes from `to` on get a number; none where len is 0
 pub record Write : Type 0 where
@@ -28,24 +31,24 @@ abbrev pub pair : ℕ → ℕ → ℕ
 pair a b = a + 4294967296 * b
 
 abbrev pub midWrite : ℕ → ℕ → Write
-midWrite b m = record { to = 128 * b + 8; len = 4; value = m }
+midWrite b m = record { to = bucketStart b + midAt; len = 4; value = m }
 
 abbrev pub childWrite : ℕ → ℕ → ℕ → Write
-childWrite b side n = record { to = 128 * b + side; len = 1; value = n }
+childWrite b side n = record { to = bucketStart b + side; len = 1; value = n }
 
 abbrev pub rangeWrite : ℕ → ℕ → ℕ → Write
-rangeWrite b x y = record { to = 128 * b; len = 8; value = pair x y }
+rangeWrite b x y = record { to = bucketStart b; len = 8; value = pair x y }
 
 -- entry i of bucket b: load 4, position 2
 abbrev pub entryWrite : ℕ → ℕ → ℕ → ℕ → Write
-entryWrite b i l p = record { to = 128 * b + (24 + 8 * i); len = 6; value = pair l p }
+entryWrite b i l p = record { to = bucketStart b + entryAt i; len = 6; value = pair l p }
 
 -- the load l with position p goes where the plan says; a new bucket gets the number n. Where there was no room, the segment
 -- has been closed and a new tree begins.
 unfoldable pub writesOf : Plan → ℕ → ℕ → ℕ → Writes
 writesOf damaged n l p = record { mid = nothing; child = nothing; range = nothing; entry = nothing }
-writesOf noRoom n l p = record { mid = nothing; child = nothing; range = rangeWrite 0 0 150001; entry = entryWrite 0 0 l p }
-writesOf newRoot n l p = record { mid = nothing; child = nothing; range = rangeWrite 0 0 150001; entry = entryWrite 0 0 l p }
+writesOf noRoom n l p = record { mid = nothing; child = nothing; range = rangeWrite 0 0 codeMost; entry = entryWrite 0 0 l p }
+writesOf newRoot n l p = record { mid = nothing; child = nothing; range = rangeWrite 0 0 codeMost; entry = entryWrite 0 0 l p }
 writesOf (intoBucket b i) n l p = record { mid = nothing; child = nothing; range = nothing; entry = entryWrite b i l p }
 writesOf (newChild b side x y) n l p =
     record { mid = nothing; child = childWrite b side n; range = rangeWrite n x y; entry = entryWrite n 0 l p }
@@ -69,7 +72,7 @@ unfoldable pub allClear : List ℕ → Writes → Bool
 allClear nor ws = isClear nor (ws .mid) && isClear nor (ws .child) && isClear nor (ws .range) && isClear nor (ws .entry)
 
 abbrev pub written : List ℕ → Write → List ℕ
-written nor w = splice nor (w .to) (bytes (w .len) (w .value))
+written nor w = norWritten nor (w .to) (w .len) (w .value)
 
 unfoldable pub allWritten : List ℕ → Writes → List ℕ
 allWritten nor ws = written (written (written (written nor (ws .mid)) (ws .child)) (ws .range)) (ws .entry)

@@ -4,12 +4,13 @@ use flash::Page;
 ghost use mathlib.Core.Path.{_≡_};
 ghost use Prim.Native.Nat.{_+_, _*_, _≤_, _<_};
 ghost use lib.ListN.{length};
+ghost use Rattle.tree.specs.Rules.{entriesMost};
 ghost use Rattle.tree.specs.Reading.{bucketAt, entryIn, entriesFrom, childAt, kidsOf, childGood, kidsGood, positionsGood};
-ghost use Rattle.tree.specs.Place.{placeOf};
-ghost use Rattle.tree.specs.Seen.{headOf, seenNode};
+ghost use Rattle.tree.specs.Place.{placeOf, treeStart, bucketStart};
+ghost use Rattle.tree.specs.Inner.Seen.{headOf, seenNode};
 
 // "numbers run 0–35"
-pub const MAX_BUCKETS: u8 = 36;
+pub const BUCKETS_MOST: u8 = 36;
 
 // "a bucket with 13 is full"
 pub const ENTRIES_PER_BUCKET: usize = 13;
@@ -24,9 +25,7 @@ pub const NO_CHILD: u8 = 255;
 const NO_POSITION: u16 = 65535;
 
 // "The root range is (−50,001, 100,000]": the upper end, as stored.
-pub const TOP: u32 = 150001;
-
-const FIRST_PAGE: usize = 20;
+pub const TOP: u32 = lift::CODE_MAX;
 
 const BUCKETS_PER_PAGE: usize = 4;
 
@@ -54,12 +53,16 @@ pub struct Place {
 
 // A bucket as it is read: whether it is without damage, its range (x, y], its mid and children, how many entries it has.
 pub struct Node {
+    // no damage
     pub good: bool,
+    // the range (x, y]
     pub x: u32,
     pub y: u32,
+    // the mid, all ones until it is split, and both children, 255 none
     pub mid: u32,
     pub left: u8,
     pub right: u8,
+    // how many entries it has
     pub used: usize,
 }
 
@@ -75,23 +78,31 @@ pub fn place_of(b: Bucket) -> Place
 {
     let n = b.0 as usize;
     Place {
-        page: Page(FIRST_PAGE + n / BUCKETS_PER_PAGE),
+        page: Page(flash::TREE_FIRST + n / BUCKETS_PER_PAGE),
         offset: BUCKET_BYTES * (n % BUCKETS_PER_PAGE),
     }
 }
 
-// Where a bucket starts in the tree's area, whose first page is 20.
+// Where a page starts in the tree's area, whose first page is 20.
+pub fn page_start(p: Page) -> usize
+    requires { ⌜ (20 ≤ p .0) × (p .0 < 256) ⌝ }
+    ensures { λ r. ⌜ r ≡ treeStart (p .0) ⌝ }
+{
+    flash::PAGE_BYTES * (p.0 - flash::TREE_FIRST)
+}
+
+// Where a bucket starts in it.
 pub fn start_of(b: Bucket) -> usize
-    ensures { λ r. ⌜ r ≡ 128 * b .0 ⌝ }
+    ensures { λ r. ⌜ r ≡ bucketStart (b .0) ⌝ }
 {
     let p = place_of(b);
     let page = p.page;
-    (page.0 - FIRST_PAGE) * flash::PAGE_BYTES + p.offset
+    page_start(page) + p.offset
 }
 
 // The 128 bytes of a bucket.
 pub fn bucket_of(tree: &[u8], b: Bucket) -> &[u8]
-    requires { ⌜ 128 * b .0 + 128 ≤ length (now tree) ⌝ }
+    requires { ⌜ bucketStart (b .0) + 128 ≤ length (now tree) ⌝ }
     ensures { λ r. ⌜ now r ≡ bucketAt (now (tree .entry)) (b .0) ⌝ }
 {
     let a = start_of(b);
@@ -101,14 +112,14 @@ pub fn bucket_of(tree: &[u8], b: Bucket) -> &[u8]
 
 // Entry i of a bucket's bytes: its load as stored, and its position.
 pub fn entry_code(s: &[u8], i: usize) -> u32
-    requires { ⌜ (i < 13) × (128 ≤ length (now s)) ⌝ }
+    requires { ⌜ (i < entriesMost) × (128 ≤ length (now s)) ⌝ }
     ensures { λ r. ⌜ r ≡ entryIn (now (s .entry)) i .load ⌝ }
 {
     codec::get_u32(s, ENTRIES_AT + ENTRY_BYTES * i)
 }
 
 pub fn entry_position(s: &[u8], i: usize) -> u16
-    requires { ⌜ (i < 13) × (128 ≤ length (now s)) ⌝ }
+    requires { ⌜ (i < entriesMost) × (128 ≤ length (now s)) ⌝ }
     ensures { λ r. ⌜ r ≡ entryIn (now (s .entry)) i .position ⌝ }
 {
     codec::get_u16(s, ENTRIES_AT + 4 + ENTRY_BYTES * i)

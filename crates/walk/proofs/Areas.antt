@@ -8,15 +8,15 @@ use native.Mathlib.Omega.{arith}
 use lib.ListN.{length}
 use Rattle.codec.proofs.Areas.{length-part}
 use Rattle.flash.specs.Chip.{slotOf, pagesOf, norTree}
-use Rattle.bitset.specs.Set.{emptyWords}
+use Rattle.bitset.specs.Inner.Words.{emptyWords}
 use Rattle.sweep.specs.declared.Records.{Records}
 use Rattle.sweep.specs.declared.Sweep.{Sweep}
-use Rattle.sweep.specs.Swept.{sweptFrom, Recorded, Held}
+use Rattle.sweep.specs.Inner.Swept.{sweptFrom, Recorded, Held}
 use Rattle.walk.specs.declared.Closed.{Closed}
 use Rattle.walk.specs.declared.Log.{Log}
 use Rattle.walk.specs.declared.Query.{Query}
 use Rattle.walk.specs.Visit.{closedLifts, openLifts, matchesOf, closedMatches, openMatches}
-use Rattle.walk.specs.Sound.{ClosedSound, LogSound, closedRecords, openRecords}
+use Rattle.walk.specs.Inner.Sound.{ClosedSound, LogSound, closedRecords, openRecords}
 
 -- ---- a closed segment
 

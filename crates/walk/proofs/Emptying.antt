@@ -7,12 +7,12 @@ use native.Mathlib.Omega.{arith}
 use lib.ListN.{length}
 use Rattle.bitset.specs.declared.Bits.{Bits}
 use Rattle.bitset.specs.declared.Next.{Next}
-use Rattle.bitset.specs.Set.{emptyWords, insertIn, insertAll, members, picked, has}
-use Rattle.bitset.specs.Emptying.{nextOf}
-use Rattle.bitset.proofs.Set.{Below}
+use Rattle.bitset.specs.Set.{picked}
+use Rattle.bitset.specs.Inner.Words.{emptyWords, insertIn, insertAll, members, has, Below}
+use Rattle.bitset.specs.Inner.Emptying.{nextOf}
 use Rattle.bitset.proofs.Emptying.{next-step, next-end}
 use Rattle.sweep.specs.declared.Records.{Records}
-use Rattle.sweep.specs.Swept.{Recorded}
+use Rattle.sweep.specs.Inner.Swept.{Recorded}
 
 -- the record of a lift's place lies within the areas
 pub recorded-at : (lifts tail : List ℕ) (g : Records) (p : ℕ) → Recorded lifts tail g → p < g .count

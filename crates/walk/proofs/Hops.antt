@@ -1,6 +1,5 @@
 -- The skip walk: a hop as the code makes it, hops beyond serial and level that change nothing, and pointers that stay in their
--- slots.
--- Assumes nothing.
+-- slots. Assumes nothing.
 use mathlib.Core.Path.{_≡_, refl, sym, ap, _∙_}
 use mathlib.Core.Bool.{Bool, true, false, cond, not, _&&_, _||_}
 use mathlib.Core.List.{List, [], _∷_}
@@ -9,6 +8,7 @@ use native.Mathlib.Omega.{arith}
 use lib.Dec.{eqb, ltb, leb}
 use lib.ListN.{length, getD}
 use borrow.Author.Tests.{ltb-true, not-true, not-false}
+use Rattle.codec.proofs.Truth.{and-left}
 use Rattle.flash.specs.Chip.{pageOf}
 use Rattle.skiplist.specs.declared.Pointer.{Pointer}
 use Rattle.form.specs.declared.Form.{Form}
@@ -21,7 +21,7 @@ use Rattle.walk.specs.declared.Log.{Log}
 use Rattle.walk.specs.declared.Query.{Query}
 use Rattle.walk.specs.declared.SkipWalk.{SkipWalk}
 use Rattle.walk.specs.Seek.{headerAt, hopAt, hop, hops, skipWalk, reachedBy, isLast, startOf}
-use Rattle.walk.specs.Sound.{InSlots, Begun}
+use Rattle.walk.specs.Inner.Sound.{InSlots, Begun}
 
 -- what stands in a list does not hang on the default
 pub same-default : {A : Type 0} (l : List A) (k : ℕ) (d e : A) → k < length l → getD l k d ≡ getD l k e
@@ -48,10 +48,6 @@ live-inside size slots live p e i l = go (isNone p) (ltb (p .slot) slots) refl i
     go false true f i l = omega (arith, ltb-true (p .slot) slots f)
     go false false f i l = let z : false ≡ true = i in let y : _≡_ {A = ℕ} 0 1 = cc in absurd (omega arith)
 
-and-first : (a b : Bool) → (a && b) ≡ true → a ≡ true
-and-first true b e = refl
-and-first false b e = e
-
 -- ---- one hop as the code makes it: `p` is the pointer of level k + 1
 
 module _ (nand : List ℕ) (slots : ℕ) (live : Live) (t2 : ℕ) (w : SkipWalk) (k : ℕ) (p : Pointer) (is : p ≡ getD (w .pointers) k none)
@@ -69,7 +65,7 @@ module _ (nand : List ℕ) (slots : ℕ) (live : Live) (t2 : ℕ) (w : SkipWalk)
   pub hop-inside : not (a && ltb t2 (p .time)) ≡ false → length nand ≡ slots * 16384 → InSlots slots (w .pointers)
       → p .slot * 16384 + 16384 ≤ length nand
   hop-inside e size ps =
-      live-inside (length nand) slots live p size (rw is (ps k)) (sym live-is ∙ and-first a _ (not-false _ e))
+      live-inside (length nand) slots live p size (rw is (ps k)) (sym live-is ∙ and-left a _ (not-false _ e))
 
   module _ (onward : not (a && ltb t2 (p .time)) ≡ false) (page : List ℕ) (page-is : page ≡ pageOf nand (p .slot) 31) (h : Header)
       (h-is : h ≡ headerIn (live .form) page slots (w .before)) where

@@ -8,10 +8,12 @@ use Prim.Native.Nat.{ℕ, zero, suc, _+_, _≤_, _<_}
 use native.Mathlib.Omega.{arith}
 use lib.Dec.{eqb, leb, ltb}
 use borrow.Author.Tests.{ltb-true, eqb-true, eqb-false, ne-eqb, not-true, not-false}
+use Rattle.codec.proofs.Truth.{and-parts}
 use Rattle.bitset.specs.declared.Bits.{Bits}
-use Rattle.bitset.specs.Set.{emptyWords, insertAll, members, picked, has, elem}
+use Rattle.bitset.specs.Set.{picked, elem}
+use Rattle.bitset.specs.Inner.Words.{emptyWords, insertAll, members, has, Below}
 use Rattle.bitset.proofs.Picked.{picked-same}
-use Rattle.bitset.proofs.Set.{Below, has-inserted-all, members-empty, members-inserted-all}
+use Rattle.bitset.proofs.Set.{has-inserted-all, members-empty, members-inserted-all}
 use Rattle.lift.specs.Rows.{timeIn, codeIn}
 use Rattle.tree.specs.Rules.{Entry}
 use Rattle.tree.specs.Reading.{kidsOf, kidsGood, positionsGood, nodeGood, Node}
@@ -19,8 +21,7 @@ use Rattle.tree.specs.Search.{within, hits, reached}
 use Rattle.tree.specs.Sweep.{andThen, nodeAt, visitGood, sweepFrom, sweepOn, recordsGood}
 use Rattle.sweep.specs.declared.Records.{Records}
 use Rattle.sweep.specs.declared.Sweep.{Sweep}
-use Rattle.sweep.specs.Swept.{sweptFrom, sweptOf}
-use Rattle.tree.proofs.Clears.{both}
+use Rattle.sweep.specs.Inner.Swept.{sweptFrom, sweptOf}
 use Rattle.walk.specs.declared.Query.{Query}
 use Rattle.walk.specs.Visit.{timely, timed, timedOf, matchesOf}
 
@@ -59,10 +60,10 @@ hits-below : (count k1 k2 : ℕ) (es : List Entry) → positionsGood count es �
 unfolding positionsGood hits
 hits-below count k1 k2 [] e = tt
 hits-below count k1 k2 (x ∷ es) e =
-    go (within k1 k2 (x .load)) (hits-below count k1 k2 es (both (ltb (x .position) count) _ e .1))
+    go (within k1 k2 (x .load)) (hits-below count k1 k2 es (and-parts (ltb (x .position) count) _ e .1))
   where
     go : (t : Bool) → Below count (hits k1 k2 es) → Below count (cond t (x .position ∷ hits k1 k2 es) (hits k1 k2 es))
-    go true b = (ltb-true _ _ (both (ltb (x .position) count) _ e .0), b)
+    go true b = (ltb-true _ _ (and-parts (ltb (x .position) count) _ e .0), b)
     go false b = b
 
 -- what is found is below n; damage finds nothing
@@ -80,10 +81,10 @@ module _ (area : List ℕ) (buckets count : ℕ) (recorded : ℕ → ℕ) (k1 k2
   unfolding nodeGood
   visit-below b e =
       let n : Node = nodeAt area buckets count recorded k1 k2 b in
-      let g : nodeGood n b buckets count ≡ true = both (nodeGood n b buckets count) (recordsGood recorded k1 k2 (n .entries))
+      let g : nodeGood n b buckets count ≡ true = and-parts (nodeGood n b buckets count) (recordsGood recorded k1 k2 (n .entries))
       e .0 in
       hits-below count k1 k2 (n .entries)
-      (both (ltb (n .x) (n .y) && leb (n .y) 150001 && kidsGood b buckets (n .x) (n .y) (kidsOf n))
+      (and-parts (ltb (n .x) (n .y) && leb (n .y) 150001 && kidsGood b buckets (n .x) (n .y) (kidsOf n))
       (positionsGood count (n .entries)) g .1)
 
   from-below : (n b : ℕ) (r : ℕ → Bool) → AllBelow count (sweepFrom area buckets count recorded k1 k2 n b r)
@@ -213,7 +214,7 @@ matches-places tree lifts tail first count buckets q =
     go none a = tt
     go (some ps) a =
         let f : ℕ → Bool = λ p. elem p ps && timely q (timeIn lifts tail first p) in (
-          below-picked count f 0 320 (λ p e. below-elem count p ps a (both (elem p ps) _ e .0)),
+          below-picked count f 0 320 (λ p e. below-elem count p ps a (and-parts (elem p ps) _ e .0)),
           members-inserted-all (picked f 0 320) (range-below f 0 320)
               ∙ picked-same (λ p. elem p (picked f 0 320)) f 0 320 (λ p u v. elem-picked f 0 320 p u v),
         )

@@ -7,6 +7,7 @@ use Prim.Native.Nat.{ℕ, _+_, _*_, _≤_, _<_}
 use lib.Dec.{ltb}
 use lib.ListN.{length, getD}
 use borrow.Author.Tests.{not-false, lt-ltb, le-ltb}
+use Rattle.codec.proofs.Truth.{or-left, or-right}
 use Rattle.flash.specs.Chip.{pageOf, pagesOf}
 use Rattle.bloom.specs.Bloom.{mayHold}
 use Rattle.bloom.specs.Pages.{sectionCount, sectionsIn}
@@ -21,7 +22,7 @@ use Rattle.walk.specs.declared.Step.{Step}
 use Rattle.walk.specs.declared.Step.the-variants.{End, Damage, Pass, Visit}
 use Rattle.walk.specs.Seek.{headerAt, isLast}
 use Rattle.walk.specs.Visit.{isPassed, cursorAfter, closedOf, advanceOf}
-use Rattle.walk.specs.Sound.{Sound, ClosedSound}
+use Rattle.walk.specs.Inner.Sound.{Sound, ClosedSound}
 use Rattle.walk.proofs.Hops.{header-good, live-inside}
 
 -- ---- whether a segment is passed over
@@ -44,14 +45,6 @@ module _ (nand : List ℕ) (slot : ℕ) (h : Header) (q : Query) where
 
 -- ---- one step as the code makes it
 
-or-first : (a b : Bool) → (a || b) ≡ false → a ≡ false
-or-first true b e = e
-or-first false b e = refl
-
-or-second : (a b : Bool) → (a || b) ≡ false → b ≡ false
-or-second true b e = let z : true ≡ false = e in cc
-or-second false b e = e
-
 module _ (nand : List ℕ) (slots : ℕ) (live : Live) (q : Query) (c : Cursor) (a : Bool) (live-is : a ≡ isLive (c .next) live) where
   ends : (b : Bool) → (c .last || not a) ≡ b → (c .last || not (isLive (c .next) live)) ≡ b
   ends b e = rw (← live-is) e
@@ -63,8 +56,8 @@ module _ (nand : List ℕ) (slots : ℕ) (live : Live) (q : Query) (c : Cursor) 
   module _ (onward : (c .last || not a) ≡ false) where
     pub advance-inside : length nand ≡ slots * 16384 → Sound slots c → c .next .slot * 16384 + 16384 ≤ length nand
     advance-inside size sound =
-        live-inside (length nand) slots live (c .next) size (sound (or-first (c .last) (not a) onward))
-        (sym live-is ∙ not-false a (or-second (c .last) (not a) onward))
+        live-inside (length nand) slots live (c .next) size (sound (or-left (c .last) (not a) onward))
+        (sym live-is ∙ not-false a (or-right (c .last) (not a) onward))
 
     module _ (page : List ℕ) (page-is : page ≡ pageOf nand (c .next .slot) 31) (h : Header)
         (h-is : h ≡ headerIn (live .form) page slots (c .before)) where
@@ -130,6 +123,6 @@ module _ (nand : List ℕ) (slots : ℕ) (live : Live) (q : Query) (c : Cursor) 
       go false e true h true = rw h (after-facts h)
       go false e true h false =
           let f = header-good (live .form) nand slots (c .before) (c .next) header refl h .counts in
-          let i = live-inside (length nand) slots live (c .next) size (sound (or-first (c .last) _ e))
-          (not-false _ (or-second (c .last) _ e)) in
+          let i = live-inside (length nand) slots live (c .next) size (sound (or-left (c .last) _ e))
+          (not-false _ (or-right (c .last) _ e)) in
           rw h (record { inside = i; most = f .most; buckets-most = f .buckets-most }, after-facts h)

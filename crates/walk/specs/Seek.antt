@@ -1,16 +1,15 @@
--- Where a search's closed segments begin (document 01, "Search", first paragraph): the skip walk, from the heads, level 4 down
--- to 1.
--- Assumes nothing.
+-- Where a search's closed segments begin (document 01, "Search", first paragraph): the skip walk, from the heads, level 4 down to
+-- 1. Assumes nothing.
 use mathlib.Core.Bool.{Bool, true, cond, not, _&&_}
 use mathlib.Core.List.{List}
 use Prim.Native.Nat.{ℕ, zero, suc, _+_}
 use lib.Dec.{eqb, leb, ltb}
 use lib.ListN.{getD}
-use Rattle.flash.specs.Chip.{pageOf}
+use Rattle.flash.specs.Chip.{pageOf, headerLast}
 use Rattle.skiplist.specs.declared.Pointer.{Pointer}
 use Rattle.form.specs.declared.Form.{Form}
 use Rattle.form.specs.declared.Form.the-variants.{Old, New}
-use Rattle.skiplist.specs.Skip.{Live, none, isLive}
+use Rattle.skiplist.specs.Skip.{Live, none, isLive, levels}
 use Rattle.segment.specs.declared.Header.{Header}
 use Rattle.segment.specs.Header.{headerIn}
 use Rattle.walk.specs.declared.Cursor.{Cursor}
@@ -20,11 +19,10 @@ use Rattle.walk.specs.declared.SkipWalk.{SkipWalk}
 
 -- the header that a pointer leads to; its serial is to be below the one before
 abbrev pub headerAt : Form → List ℕ → ℕ → Pointer → ℕ → Header
-headerAt f nand slots p before = headerIn f (pageOf nand (p .slot) 31) slots before
+headerAt f nand slots p before = headerIn f (pageOf nand (p .slot) headerLast) slots before
 
 -- the walk is at level k + 1: "while that level's pointer is live and its time is above t2, load its header and go on from its
--- pointers",
--- else one level down; damage ends the walk
+-- pointers", else one level down; damage ends the walk
 unfoldable pub hopAt : List ℕ → ℕ → Live → ℕ → SkipWalk → ℕ → SkipWalk
 hopAt nand slots live t2 w k =
     let p = getD (w .pointers) k none in
@@ -45,8 +43,8 @@ hops (suc n) nand slots live t2 w = hops n nand slots live t2 (hop nand slots li
 -- the walk from the heads
 unfoldable pub skipWalk : List ℕ → Log → Live → ℕ → SkipWalk
 skipWalk nand g live t2 =
-    hops (g .current + 4) nand (g .slots) live t2
-    (record { good = true; level = 4; before = g .current; pointers = g .heads })
+    hops (g .current + levels) nand (g .slots) live t2
+    (record { good = true; level = levels; before = g .current; pointers = g .heads })
 
 -- "the level 1 pointer then reached"
 abbrev pub reachedBy : SkipWalk → Cursor

@@ -2,11 +2,11 @@
 use mathlib.Core.Bool.{Bool, true, cond, not, _&&_, _||_}
 use mathlib.Core.Option.{Option, none, some}
 use mathlib.Core.List.{List, [], map}
-use Prim.Native.Nat.{ℕ, _*_, _/_}
+use Prim.Native.Nat.{ℕ}
 use lib.Dec.{eqb, leb, ltb}
 use lib.ListN.{getD}
-use Rattle.flash.specs.Chip.{slotOf, pagesOf, norTree}
-use Rattle.lift.specs.Rows.{timeIn, codeIn, recordIn}
+use Rattle.flash.specs.Chip.{slotOf, pagesOf, norTree, treeFirst, treePages, bloomFirst}
+use Rattle.lift.specs.Rows.{timeIn, codeIn, recordIn, liftsMost, inFullPages}
 use Rattle.bloom.specs.Bloom.{mayHold}
 use Rattle.bloom.specs.Pages.{sectionCount, sectionsIn}
 use Rattle.bitset.specs.Set.{picked, elem}
@@ -30,7 +30,7 @@ use Rattle.walk.specs.Seek.{headerAt, isLast}
 unfoldable pub isPassed : List ℕ → ℕ → Header → Query → Bool
 isPassed nand slot h q =
     (ltb (h .high) (q .k1) || ltb (q .k2) (h .low))
-    || (not (ltb (q .k1) (q .k2)) && not (mayHold (sectionsIn (pagesOf nand slot 29 2) (sectionCount (h .count))) (q .k1)))
+    || (not (ltb (q .k1) (q .k2)) && not (mayHold (sectionsIn (pagesOf nand slot bloomFirst 2) (sectionCount (h .count))) (q .k1)))
 
 -- "Then level 1", until the last one has been done
 abbrev pub cursorAfter : Form → Header → Query → Cursor
@@ -57,7 +57,7 @@ timely q t = leb (q .t1) t && leb t (q .t2)
 
 -- the places, lowest first, of those positions whose times are from t1 to t2
 unfoldable pub timed : (ℕ → ℕ) → Query → List ℕ → List ℕ
-timed time q ps = picked (λ p. elem p ps && timely q (time p)) 0 320
+timed time q ps = picked (λ p. elem p ps && timely q (time p)) 0 liftsMost
 
 abbrev pub timedOf : (ℕ → ℕ) → Query → Option (List ℕ) → Option (List ℕ)
 timedOf time q none = none
@@ -70,22 +70,19 @@ matchesOf tree lifts tail first count buckets q =
 
 -- of a closed segment
 abbrev pub closedLifts : List ℕ → Closed → List ℕ
-closedLifts nand s = pagesOf nand (s .slot) 0 20
+closedLifts nand s = pagesOf nand (s .slot) 0 treeFirst
 
 unfoldable pub closedMatches : List ℕ → Closed → Query → Option (List ℕ)
 closedMatches nand s q =
-    matchesOf (pagesOf nand (s .slot) 20 9) (closedLifts nand s) (closedLifts nand s) 320 (s .count) (s .buckets) q
+    matchesOf (pagesOf nand (s .slot) treeFirst treePages) (closedLifts nand s) (closedLifts nand s) liftsMost (s .count) (s .buckets) q
 
 -- of the open segment: its full pages are in NAND, the rest in the page buffer
 abbrev pub openLifts : List ℕ → Log → List ℕ
-openLifts nand g = pagesOf nand (slotOf (g .current) (g .slots)) 0 20
-
-abbrev pub firstBuffered : ℕ → ℕ
-firstBuffered count = count / 16 * 16
+openLifts nand g = pagesOf nand (slotOf (g .current) (g .slots)) 0 treeFirst
 
 unfoldable pub openMatches : List ℕ → List ℕ → List ℕ → Log → Query → Option (List ℕ)
 openMatches nand nor page g q =
-    matchesOf (norTree nor) (openLifts nand g) page (firstBuffered (g .count)) (g .count) (g .buckets) q
+    matchesOf (norTree nor) (openLifts nand g) page (inFullPages (g .count)) (g .count) (g .buckets) q
 
 -- the rows of matches: their records
 abbrev pub rowsAt : (ℕ → List ℕ) → Option (List ℕ) → Option (List (List ℕ))
@@ -93,10 +90,10 @@ rowsAt record' none = none
 rowsAt record' (some ps) = some (map record' ps)
 
 unfoldable pub closedRows : List ℕ → Closed → Query → Option (List (List ℕ))
-closedRows nand s q = rowsAt (recordIn (closedLifts nand s) (closedLifts nand s) 320) (closedMatches nand s q)
+closedRows nand s q = rowsAt (recordIn (closedLifts nand s) (closedLifts nand s) liftsMost) (closedMatches nand s q)
 
 -- none where the open segment has no lifts
 unfoldable pub openRows : List ℕ → List ℕ → List ℕ → Log → Query → Option (List (List ℕ))
 openRows nand nor page g q =
     cond (eqb (g .count) 0) (some [])
-    (rowsAt (recordIn (openLifts nand g) page (firstBuffered (g .count))) (openMatches nand nor page g q))
+    (rowsAt (recordIn (openLifts nand g) page (inFullPages (g .count))) (openMatches nand nor page g q))

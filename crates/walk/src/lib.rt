@@ -3,6 +3,7 @@ use bitset::Bits;
 use flash::Page;
 use form::Form;
 use segment::Header;
+use skiplist::LEVELS;
 use skiplist::Pointer;
 use sweep::Range;
 use sweep::Records;
@@ -11,15 +12,16 @@ ghost use mathlib.Core.Path.{_≡_};
 ghost use mathlib.Core.Bool.{_&&_};
 ghost use Prim.Native.Nat.{_+_, _-_, _*_, _<_, _≤_};
 ghost use lib.ListN.{length, getD};
-ghost use Rattle.bitset.specs.Set.{emptyWords, insertAll, members, picked, has};
-ghost use Rattle.bitset.proofs.Set.{Below};
-ghost use Rattle.lift.specs.Rows.{timeIn};
-ghost use Rattle.skiplist.specs.Skip.{none, serialsFrom};
-ghost use Rattle.sweep.specs.Swept.{sweptFrom, Recorded, Held};
+ghost use Rattle.flash.specs.Chip.{pageWidth, slotWidth};
+ghost use Rattle.bitset.specs.Set.{picked};
+ghost use Rattle.bitset.specs.Inner.Words.{emptyWords, insertAll, members, has, Below};
+ghost use Rattle.lift.specs.Rows.{timeIn, liftsMost};
+ghost use Rattle.skiplist.specs.Skip.{levels, none, serialsFrom};
+ghost use Rattle.sweep.specs.Inner.Swept.{sweptFrom, Recorded, Held};
 ghost use Rattle.walk.specs.Seek.{hopAt, skipWalk, startOf};
 ghost use Rattle.walk.specs.Visit.{isPassed, advanceOf, timely, matchesOf, closedMatches, openMatches};
 ghost use Rattle.walk.specs.Visit.{closedLifts, openLifts};
-ghost use Rattle.walk.specs.Sound.{InSlots, Sound, ClosedSound, LogSound, closedRecords, openRecords};
+ghost use Rattle.walk.specs.Inner.Sound.{InSlots, Sound, ClosedSound, LogSound, closedRecords, openRecords};
 
 // Times from t1 to t2, stored loads from k1 to k2.
 pub struct Query {
@@ -31,19 +33,26 @@ pub struct Query {
 
 // What a search needs of the state.
 pub struct Log {
+    // S
     pub slots: u64,
+    // open serial; its count, bucket count and start time
     pub current: u32,
     pub count: u16,
     pub buckets: u8,
     pub start: u64,
+    // oldest retained serial, by which a pointer is live
     pub oldest: u32,
-    pub heads: [Pointer; 4],
+    // four skip heads
+    pub heads: [Pointer; LEVELS],
 }
 
 // The next segment to go to, the serial before it, and whether the last one has been done.
 pub struct Cursor {
+    // no damage on the way so far
     pub good: bool,
+    // the last segment has been done
     pub last: bool,
+    // the next segment, by its level 1 pointer; the serial of the header before it, or the open serial
     pub next: Pointer,
     pub before: u32,
 }
@@ -64,15 +73,18 @@ pub enum Step {
 
 // The skip walk: the level it is at, 0 at its end, and the pointers it goes on from.
 pub struct SkipWalk {
+    // no damage so far
     pub good: bool,
+    // the level, 4 down to 1
     pub level: usize,
+    // the serial of the header loaded last, or the open serial; the pointers that the walk goes on from
     pub before: u32,
-    pub pointers: [Pointer; 4],
+    pub pointers: [Pointer; LEVELS],
 }
 
 // The pointer of level k + 1.
-fn pointer_of(pointers: [Pointer; 4], k: usize) -> Pointer
-    requires { ⌜ k < 4 ⌝ }
+fn pointer_of(pointers: [Pointer; LEVELS], k: usize) -> Pointer
+    requires { ⌜ k < levels ⌝ }
     ensures { λ r. ⌜ r ≡ getD pointers k none ⌝ }
 {
     pointers[k]
@@ -80,7 +92,7 @@ fn pointer_of(pointers: [Pointer; 4], k: usize) -> Pointer
 
 // One header on, or one level down.
 fn hop(nand: &[u8], slots: u64, oldest: u32, t2: u64, w: SkipWalk) -> SkipWalk
-    requires { ⌜ (length (now nand) ≡ slots * 16384) × (0 < w .level) × (w .level ≤ 4) ⌝ }
+    requires { ⌜ (length (now nand) ≡ slots * slotWidth) × (0 < w .level) × (w .level ≤ levels) ⌝ }
     requires { ⌜ InSlots slots (w .pointers) ⌝ }
     ensures { λ r. ⌜ r ≡ hopAt (now (nand .entry)) slots (serialsFrom oldest) t2 w (w .level - 1) ⌝ }
 {
@@ -97,7 +109,7 @@ fn hop(nand: &[u8], slots: u64, oldest: u32, t2: u64, w: SkipWalk) -> SkipWalk
         };
     }
     let slot = p.slot as usize;
-    let page = flash::pages_of(nand, slot, Page(segment::HEADER_PAGE), 1);
+    let page = flash::pages_of(nand, slot, Page(flash::HEADER_LAST), 1);
     let h = segment::header_in(page, Form::New, slots, w.before);
     let next = h.next;
     let good = h.good;
@@ -119,14 +131,14 @@ fn hop(nand: &[u8], slots: u64, oldest: u32, t2: u64, w: SkipWalk) -> SkipWalk
 
 // By the skip pointers, level 4 down to 1, to the newest closed segment with start not above t2.
 fn seek(nand: &[u8], g: Log, t2: u64) -> SkipWalk
-    requires { ⌜ length (now nand) ≡ g .slots * 16384 ⌝ }
+    requires { ⌜ length (now nand) ≡ g .slots * slotWidth ⌝ }
     requires { ⌜ InSlots (g .slots) (g .heads) ⌝ }
     ensures { λ r. ⌜ r ≡ skipWalk (now (nand .entry)) g (serialsFrom (g .oldest)) t2 ⌝ }
 {
     let heads = g.heads;
     let mut w = SkipWalk {
         good: true,
-        level: 4,
+        level: LEVELS,
         before: g.current,
         pointers: heads,
     };
@@ -138,7 +150,7 @@ fn seek(nand: &[u8], g: Log, t2: u64) -> SkipWalk
 
 // Where the closed segments begin; at the end where the open one has lifts and its start is not above t1.
 pub fn start_of(nand: &[u8], g: Log, q: Query) -> Cursor
-    requires { ⌜ length (now nand) ≡ g .slots * 16384 ⌝ }
+    requires { ⌜ length (now nand) ≡ g .slots * slotWidth ⌝ }
     requires { ⌜ InSlots (g .slots) (g .heads) ⌝ }
     ensures { λ r. ⌜ r ≡ startOf (now (nand .entry)) g (serialsFrom (g .oldest)) q ⌝ }
 {
@@ -166,7 +178,7 @@ pub fn start_of(nand: &[u8], g: Log, q: Query) -> Cursor
 
 // Passed over: its load span misses the range or, for equal loads, its Bloom pages miss the load.
 fn is_passed(nand: &[u8], slot: usize, h: Header, q: Query) -> bool
-    requires { ⌜ (slot * 16384 + 16384 ≤ length (now nand)) × (1 ≤ h .count) × (h .count ≤ 320) × (1 ≤ q .k1) ⌝ }
+    requires { ⌜ (slot * slotWidth + slotWidth ≤ length (now nand)) × (1 ≤ h .count) × (h .count ≤ liftsMost) × (1 ≤ q .k1) ⌝ }
     ensures { λ r. ⌜ r ≡ isPassed (now (nand .entry)) slot h q ⌝ }
 {
     let misses = (h.high < q.k1) | (q.k2 < h.low);
@@ -176,14 +188,14 @@ fn is_passed(nand: &[u8], slot: usize, h: Header, q: Query) -> bool
     if q.k1 < q.k2 {
         return false;
     }
-    let pages = flash::pages_of(nand, slot, Page(segment::BLOOM_PAGE), 2);
+    let pages = flash::pages_of(nand, slot, Page(flash::BLOOM_FIRST), 2);
     let held = bloom::may_hold(pages, h.count, q.k1);
     !held
 }
 
 // One segment on.
 pub fn advance(nand: &[u8], slots: u64, oldest: u32, q: Query, c: Cursor) -> Step
-    requires { ⌜ (length (now nand) ≡ slots * 16384) × (1 ≤ q .k1) ⌝ }
+    requires { ⌜ (length (now nand) ≡ slots * slotWidth) × (1 ≤ q .k1) ⌝ }
     requires { ⌜ Sound slots c ⌝ }
     ensures { λ r. ⌜ r ≡ advanceOf (now (nand .entry)) slots (serialsFrom oldest) q c ⌝ }
 {
@@ -193,7 +205,7 @@ pub fn advance(nand: &[u8], slots: u64, oldest: u32, q: Query, c: Cursor) -> Ste
         return Step::End;
     }
     let slot = p.slot as usize;
-    let page = flash::pages_of(nand, slot, Page(segment::HEADER_PAGE), 1);
+    let page = flash::pages_of(nand, slot, Page(flash::HEADER_LAST), 1);
     let h = segment::header_in(page, Form::New, slots, c.before);
     let good = h.good;
     if !good {
@@ -270,15 +282,15 @@ pub fn closed_records(s: Closed) -> Records
     Records {
         count: s.count,
         buckets: s.buckets,
-        first: 320,
+        first: lift::LIFTS_MOST as usize,
     }
 }
 
 pub fn closed_lifts(nand: &[u8], s: Closed) -> &[u8]
-    requires { ⌜ s .slot * 16384 + 16384 ≤ length (now nand) ⌝ }
+    requires { ⌜ s .slot * slotWidth + slotWidth ≤ length (now nand) ⌝ }
     ensures { λ r. ⌜ now r ≡ closedLifts (now (nand .entry)) s ⌝ }
 {
-    flash::pages_of(nand, s.slot, Page(0), segment::TREE_PAGE)
+    flash::pages_of(nand, s.slot, Page(0), flash::TREE_FIRST)
 }
 
 pub fn closed_matches(nand: &[u8], s: Closed, q: Query) -> Sweep
@@ -286,7 +298,7 @@ pub fn closed_matches(nand: &[u8], s: Closed, q: Query) -> Sweep
     ensures { λ r. ⌜ r ≡ sweptFrom emptyWords (closedMatches (now (nand .entry)) s q) ⌝ }
 {
     let lifts = closed_lifts(nand, s);
-    let t = flash::pages_of(nand, s.slot, Page(segment::TREE_PAGE), 9);
+    let t = flash::pages_of(nand, s.slot, Page(flash::TREE_FIRST), flash::TREE_PAGES);
     let g = closed_records(s);
     matches(t, lifts, lifts, g, q)
 }
@@ -299,21 +311,21 @@ pub fn open_records(g: Log) -> Records
     Records {
         count: g.count,
         buckets: g.buckets,
-        first: n / 16 * 16,
+        first: n / lift::LIFTS_PER_PAGE * lift::LIFTS_PER_PAGE,
     }
 }
 
 pub fn open_lifts(nand: &[u8], g: Log) -> &[u8]
-    requires { ⌜ (length (now nand) ≡ g .slots * 16384) × (1 ≤ g .current) × (1 ≤ g .slots) ⌝ }
+    requires { ⌜ (length (now nand) ≡ g .slots * slotWidth) × (1 ≤ g .current) × (1 ≤ g .slots) ⌝ }
     ensures { λ r. ⌜ now r ≡ openLifts (now (nand .entry)) g ⌝ }
 {
     let slot = flash::slot_of(g.current, g.slots);
-    flash::pages_of(nand, slot, Page(0), segment::TREE_PAGE)
+    flash::pages_of(nand, slot, Page(0), flash::TREE_FIRST)
 }
 
 pub fn open_matches(nand: &[u8], nor: &[u8], page: &[u8], g: Log, q: Query) -> Sweep
     requires { ⌜ LogSound (now nand) (now nor) g ⌝ }
-    requires { ⌜ length (now page) ≡ 512 ⌝ }
+    requires { ⌜ length (now page) ≡ pageWidth ⌝ }
     ensures { λ r. ⌜ r ≡ sweptFrom emptyWords (openMatches (now (nand .entry)) (now (nor .entry)) (now (page .entry)) g q) ⌝ }
 {
     let lifts = open_lifts(nand, g);

@@ -1,1 +1,11 @@
 pub mod Examples
+pub mod Figures
+pub mod Laid
+pub mod States
+pub mod Midpoints
+pub mod Buckets
+pub mod Bytes
+pub mod StateAreas
+pub mod Bounds
+pub mod Damage
+pub mod Refusals

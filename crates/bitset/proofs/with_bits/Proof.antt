@@ -1,6 +1,4 @@
 -- `with_bits` meets its contract, by its test.
-use native.Mathlib.Omega.{arith}
-use borrow.Author.Needs.{needs}
 use Rattle.bitset.proofs.with_bits.Statement.{statement}
 use Rattle.bitset.proofs.with_bits.Tie as tie
 

@@ -1,5 +1,4 @@
 -- `without_lowest` meets its contract: the power of its trailing zeros is taken away.
-use native.Mathlib.Omega.{arith}
 use borrow.Author.Needs.{needs}
 use Rattle.bitset.proofs.without_lowest.Statement.{statement}
 use Rattle.bitset.proofs.without_lowest.Tie as tie

@@ -1,7 +1,7 @@
 -- `section_byte`: past the end, in NOR, or in the buffer.
-use mathlib.Core.Path.{_≡_, sym}
+use mathlib.Core.Path.{sym}
 use mathlib.Core.List.{[]}
-use lib.ListN.{length, getD, List·getD-eq-default}
+use lib.ListN.{getD, List·getD-eq-default}
 use Rattle.bloom.specs.Pages.{sectionsFrom}
 use Rattle.bloom.proofs.Stored.{length-section, byte-in-nor, byte-in-buffer}
 use native.Mathlib.Omega.{arith}

@@ -2,7 +2,7 @@
 use mathlib.Core.Path.{_≡_, sym, _∙_}
 use Rattle.form.specs.declared.Form.the-variants.{Old, New}
 use Rattle.store.specs.World.{world}
-use Rattle.conversion.specs.Carried.{nandInto, firstTime}
+use Rattle.carry.specs.Carried.{nandInto, firstTime}
 use Rattle.conversion.proofs.Judged.{stands, next-most, free, first-free, back-ground, old-made, refused, carried}
 use native.Mathlib.Omega.{arith}
 use borrow.Author.Needs.{needs}

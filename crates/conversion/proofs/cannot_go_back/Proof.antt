@@ -2,9 +2,10 @@
 use mathlib.Core.Path.{ap, _∙_}
 use lib.ListN.{length}
 use Rattle.form.specs.declared.Form.the-variants.{Old, New}
-use Rattle.conversion.specs.declared.headers.Sought.the-variants.{LatePointer}
-use Rattle.conversion.specs.Retained.{anyLate}
-use Rattle.conversion.specs.Pieces.{serialsOf, anySought}
+use Rattle.retained.specs.declared.headers.Sought.the-variants.{LatePointer}
+use Rattle.retained.specs.Retained.{anyLate}
+use Rattle.retained.specs.Inner.Loops.{anySought}
+use Rattle.conversion.specs.Inner.Pieces.{serialsOf}
 use Rattle.conversion.proofs.Judged.{stands, next-most, counts-fit, not-rising, late-head, late-node}
 use native.Mathlib.Omega.{arith}
 use borrow.Author.Needs.{needs}

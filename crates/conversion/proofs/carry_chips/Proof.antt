@@ -1,7 +1,7 @@
 -- `carry_chips`: NAND, and NOR as it is.
 use mathlib.Core.Path.{_∙_}
 use Rattle.codec.proofs.Areas.{splice-all}
-use Rattle.conversion.specs.Carried.{nandInto}
+use Rattle.carry.specs.Carried.{nandInto}
 use borrow.Author.Needs.{needs}
 use Rattle.conversion.proofs.carry_chips.Statement.{statement}
 use Rattle.conversion.proofs.carry_chips.Tie as tie

@@ -2,15 +2,16 @@
 use mathlib.Core.Path.{_≡_, ap, _∙_}
 use Prim.Native.Nat.{_*_, _≤_}
 use lib.ListN.{length}
-use Rattle.store.specs.Calls.{boundsGround}
-use Rattle.conversion.specs.declared.headers.Sought.the-variants.{Damage}
-use Rattle.conversion.specs.Carried.{other}
-use Rattle.conversion.specs.Pieces.{serialsOf, anySought}
+use Rattle.retained.specs.declared.headers.Sought.the-variants.{Damage}
+use Rattle.carry.specs.Carried.{other}
+use Rattle.retained.specs.Inner.Loops.{anySought}
+use Rattle.conversion.specs.Inner.Pieces.{serialsOf}
 use Rattle.conversion.proofs.Judged.{by-lengths, within-ground, by-bounds, by-form, by-damage, by-none}
 use native.Mathlib.Omega.{arith}
 use borrow.Author.Needs.{needs}
 use Rattle.conversion.proofs.first_grounds.Statement.{statement}
 use Rattle.conversion.proofs.first_grounds.Tie as tie
+use Rattle.store.specs.Inner.Pieces.{boundsGround}
 
 lengths-ground-requires : tie.Need-lengths-ground-requires
 lengths-ground-requires c κs = search needs

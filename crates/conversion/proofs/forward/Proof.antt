@@ -2,7 +2,7 @@
 use mathlib.Core.Path.{_≡_, refl, sym, _∙_}
 use Rattle.form.specs.declared.Form.the-variants.{Old, New}
 use Rattle.store.specs.World.{oldWorld}
-use Rattle.conversion.specs.Carried.{nandInto}
+use Rattle.carry.specs.Carried.{nandInto}
 use Rattle.conversion.proofs.Judged.{stands, next-most, free, there-ground, refused, carried}
 use native.Mathlib.Omega.{arith}
 use borrow.Author.Needs.{needs}

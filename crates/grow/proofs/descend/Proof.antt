@@ -1,14 +1,16 @@
 -- `grow::descend` meets its contract: the plan from here is the plan from the root.
 use mathlib.Core.Path.{_≡_, refl, ap, _∙_}
 use mathlib.Core.List.{List}
-use Prim.Native.Nat.{ℕ, _*_, _≤_, _<_}
+use Prim.Native.Nat.{ℕ, _≤_, _<_}
 use native.Mathlib.Omega.{arith}
 use lib.ListN.{length}
 use borrow.Author.Tests.{not-true, not-false}
 use Rattle.codec.proofs.Areas.{length-part}
+use Rattle.tree.specs.Place.{bucketStart}
 use Rattle.tree.specs.Reading.{bucketAt}
-use Rattle.tree.specs.Plan.{planFrom, fitted}
-use Rattle.tree.specs.Seen.{seenNode}
+use Rattle.tree.specs.Plan.{planFrom, orNoRoom}
+use Rattle.tree.specs.Inner.Seen.{seenNode}
+use Rattle.tree.proofs.Starts.{bucket-start}
 use Rattle.grow.proofs.Stops.{sees, good-is, good-range}
 use Rattle.grow.proofs.Steps.{child-is, child-none, step-end, step-damage, step-here, step-down, step-below}
 use borrow.Author.Needs.{needs}
@@ -18,8 +20,8 @@ use Rattle.grow.proofs.descend.Tie as tie
 abbrev Inv-loop : tie.InvT-loop
 Inv-loop tree buckets count loads code b₀ steps₀ b steps =
     (b < 36) × (steps ≤ buckets)
-    × (fitted buckets (planFrom tree buckets count loads code steps b)
-    ≡ fitted buckets (planFrom tree buckets count loads code buckets 0))
+    × (orNoRoom buckets (planFrom tree buckets count loads code steps b)
+    ≡ orNoRoom buckets (planFrom tree buckets count loads code buckets 0))
 
 abbrev μ-loop : tie.MeasureT-loop
 μ-loop tree buckets count loads code b₀ steps₀ b steps = steps
@@ -30,7 +32,8 @@ bytes c =
     let loop = c .before .before in
     let d = loop .before .before in
     ap length (c .bucket-of .ensures)
-    ∙ length-part (d .args .tree .now) (128 * loop .loop .b) 128 (omega (arith, d .pre, loop .loop .inv .0))
+    ∙ length-part (d .args .tree .now) (bucketStart (loop .loop .b)) 128
+    (omega (arith, bucket-start (loop .loop .b), d .pre, loop .loop .inv .0))
 
 seen : (c : tie.After-node-in Inv-loop μ-loop) → let b = c .before .before .before .loop .b in
     let a = c .before .before .before .before .before .args in
@@ -47,7 +50,9 @@ sub-steps : tie.Need-sub-steps Inv-loop μ-loop
 sub-steps c = search needs
 
 bucket-of-requires : tie.Need-bucket-of-requires Inv-loop μ-loop
-bucket-of-requires c κs = search needs
+bucket-of-requires c κs =
+    let loop = c .before in
+    omega (arith, bucket-start (loop .loop .b), loop .before .before .pre, loop .loop .inv .0)
 
 node-in-requires : tie.Need-node-in-requires Inv-loop μ-loop
 node-in-requires c κs = omega (arith, bytes c)

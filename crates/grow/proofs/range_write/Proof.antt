@@ -1,7 +1,8 @@
 -- `grow::range_write` meets its contract.
 use mathlib.Core.Path.{_≡_}
-use Prim.Native.Nat.{_+_, _*_}
+use Prim.Native.Nat.{_+_}
 use native.Mathlib.Omega.{arith}
+use Rattle.tree.specs.Place.{bucketStart}
 use borrow.Author.Needs.{needs}
 use Rattle.grow.proofs.range_write.Statement.{statement}
 use Rattle.grow.proofs.range_write.Tie as tie
@@ -14,7 +15,7 @@ write-in-requires c κs = search needs
 
 returns : tie.Need-returns
 returns c =
-    let z : 128 * c .before .before .args .b .0 + 0 ≡ 128 * c .before .before .args .b .0 = omega arith in
+    let z : bucketStart (c .before .before .args .b .0) + 0 ≡ bucketStart (c .before .before .args .b .0) = omega arith in
     rw (c .write-in .ensures, z, c .before .pair .ensures)
 
 pub range-write-spec : {M : Type 1} → statement M

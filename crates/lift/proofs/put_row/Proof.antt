@@ -3,7 +3,6 @@ use mathlib.Core.Path.{ap, _∙_}
 use borrow.Author.Tests.{lt-ltb, le-ltb}
 use Rattle.codec.specs.Area.{splice}
 use Rattle.lift.specs.Rows.{recordIn}
-use native.Mathlib.Omega.{arith}
 use borrow.Author.Needs.{needs}
 use Rattle.lift.proofs.put_row.Statement.{statement}
 use Rattle.lift.proofs.put_row.Tie as tie

@@ -3,7 +3,6 @@ use mathlib.Core.Path.{refl, ap, _∙_}
 use Prim.Native.Nat.{_+_}
 use Rattle.codec.specs.Area.{splice}
 use Rattle.codec.proofs.Areas.{part-from, length-part, splice-all}
-use native.Mathlib.Omega.{arith}
 use borrow.Author.Needs.{needs}
 use Rattle.lift.proofs.record_at.Statement.{statement}
 use Rattle.lift.proofs.record_at.Tie as tie

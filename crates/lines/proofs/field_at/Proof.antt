@@ -1,11 +1,10 @@
 -- `lines::field_at` meets its contract. The invariant: what is left to read from here gives what the whole gives. Assumes nothing.
-use mathlib.Core.Path.{_≡_, refl, _∙_, ap}
+use mathlib.Core.Path.{_≡_, refl, _∙_}
 use Prim.Native.Nat.{_+_, _-_, _^_, _≤_, _<_}
 use lib.ListN.{length}
 use Rattle.codec.specs.Area.{part}
 use Rattle.lines.specs.Columns.{readFrom, fieldIn, valueOf}
 use Rattle.lines.proofs.Reading.{read-step, read-room, read-bound, read-none, read-all}
-use native.Mathlib.Omega.{arith}
 use borrow.Author.Needs.{needs}
 use Rattle.lines.proofs.field_at.Statement.{statement}
 use Rattle.lines.proofs.field_at.Tie as tie

@@ -1,5 +1,4 @@
 -- `lines::is_load` meets its contract, case by case.
-use native.Mathlib.Omega.{arith}
 use borrow.Author.Needs.{needs}
 use Rattle.lines.proofs.is_load.Statement.{statement}
 use Rattle.lines.proofs.is_load.Tie as tie

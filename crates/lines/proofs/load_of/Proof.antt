@@ -3,7 +3,6 @@ use mathlib.Core.Path.{_∙_}
 use mir.Syntax.{w32}
 use mir.ValLaws.{toZ-ofZ}
 use Rattle.lines.proofs.Reading.{load-below, load-above}
-use native.Mathlib.Omega.{arith}
 use borrow.Author.Needs.{needs}
 use Rattle.lines.proofs.load_of.Statement.{statement}
 use Rattle.lines.proofs.load_of.Tie as tie

@@ -4,7 +4,6 @@ use mathlib.Core.Bool.{false}
 use Rattle.lines.specs.Forms.{hasForm}
 use Rattle.lines.proofs.Reading.{form-length}
 use Rattle.lines.proofs.Forms.{came, is-append, is-close, is-drop, is-search, is-tally, is-page, is-other}
-use native.Mathlib.Omega.{arith}
 use borrow.Author.Needs.{needs}
 use Rattle.lines.proofs.parse.Statement.{statement}
 use Rattle.lines.proofs.parse.Tie as tie

@@ -1,6 +1,5 @@
 -- `lines::window_line` meets its contract: two times, read and tested.
 use Rattle.lines.proofs.Forms.{as-page, as-tally, window-other}
-use native.Mathlib.Omega.{arith}
 use borrow.Author.Needs.{needs}
 use Rattle.lines.proofs.window_line.Statement.{statement}
 use Rattle.lines.proofs.window_line.Tie as tie

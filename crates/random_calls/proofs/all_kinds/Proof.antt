@@ -1,4 +1,4 @@
--- Kinds stay below eight; chips, area and totals keep their lengths.
+-- Kinds stay below eight; the chips keep their lengths.
 use Prim.Native.Nat.{_-_, _≤_}
 use mathlib.Core.Path.{_≡_}
 use lib.ListN.{length}
@@ -7,18 +7,23 @@ use Rattle.random_calls.proofs.all_kinds.Statement.{statement}
 use Rattle.random_calls.proofs.all_kinds.Tie as tie
 
 abbrev Inv-loop : tie.InvT-loop
-Inv-loop nand₀ nor₀ area₀ totals₀ slots kind₀ nand nor area totals kind =
-    (kind ≤ 8) × ((length nand ≡ length nand₀) × ((length nor ≡ length nor₀)
-    × ((length area ≡ length area₀) × (length totals ≡ length totals₀))))
+Inv-loop nand₀ nor₀ slots counts₀ kind₀ nand nor counts kind =
+    (kind ≤ 8) × ((length nand ≡ length nand₀) × (length nor ≡ length nor₀))
 
 abbrev μ-loop : tie.MeasureT-loop
-μ-loop nand₀ nor₀ area₀ totals₀ slots kind₀ nand nor area totals kind = 8 - kind
+μ-loop nand₀ nor₀ slots counts₀ kind₀ nand nor counts kind = 8 - kind
+
+none-requires : tie.Need-none-requires Inv-loop μ-loop
+none-requires c κs = search needs
 
 loop-holds : tie.Need-loop-holds Inv-loop μ-loop
 loop-holds c = search needs
 
 kind-of-loads-requires : tie.Need-kind-of-loads-requires Inv-loop μ-loop
 kind-of-loads-requires c κs = search needs
+
+sum-requires : tie.Need-sum-requires Inv-loop μ-loop
+sum-requires c κs = search needs
 
 add-kind : tie.Need-add-kind Inv-loop μ-loop
 add-kind c = search needs
@@ -35,12 +40,6 @@ same-length c = search needs
 same-length-2 : tie.Need-same-length-2 Inv-loop μ-loop
 same-length-2 c = search needs
 
-same-length-3 : tie.Need-same-length-3 Inv-loop μ-loop
-same-length-3 c = search needs
-
-same-length-4 : tie.Need-same-length-4 Inv-loop μ-loop
-same-length-4 c = search needs
-
 returns : tie.Need-returns Inv-loop μ-loop
 returns c = search needs
 
@@ -50,13 +49,13 @@ all-kinds-spec =
     (tie.spec
     Inv-loop
     μ-loop
+    none-requires
     loop-holds
     kind-of-loads-requires
+    sum-requires
     add-kind
     loop-less
     loop-again
     same-length
     same-length-2
-    same-length-3
-    same-length-4
     returns)

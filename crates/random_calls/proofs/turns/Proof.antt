@@ -1,4 +1,4 @@
--- The calls left are counted down; chips, area, sheet and counts keep their lengths.
+-- The calls left are counted down; chips and sheet keep their lengths.
 use mathlib.Core.Path.{_≡_}
 use lib.ListN.{length}
 use borrow.Author.Needs.{needs}
@@ -6,12 +6,11 @@ use Rattle.random_calls.proofs.turns.Statement.{statement}
 use Rattle.random_calls.proofs.turns.Tie as tie
 
 abbrev Inv-loop : tie.InvT-loop
-Inv-loop nand₀ nor₀ area₀ sheet₀ sums₀ kind list t₀ left₀ nand nor area sheet sums t left =
-    (length nand ≡ length nand₀) × ((length nor ≡ length nor₀)
-    × ((length area ≡ length area₀) × ((length sheet ≡ length sheet₀) × (length sums ≡ length sums₀))))
+Inv-loop nand₀ nor₀ sheet₀ kind list t₀ left₀ nand nor sheet t left =
+    (length nand ≡ length nand₀) × ((length nor ≡ length nor₀) × (length sheet ≡ length sheet₀))
 
 abbrev μ-loop : tie.MeasureT-loop
-μ-loop nand₀ nor₀ area₀ sheet₀ sums₀ kind list t₀ left₀ nand nor area sheet sums t left = left
+μ-loop nand₀ nor₀ sheet₀ kind list t₀ left₀ nand nor sheet t left = left
 
 loop-holds : tie.Need-loop-holds Inv-loop μ-loop
 loop-holds c = search needs
@@ -37,12 +36,6 @@ same-length-2 c = search needs
 same-length-3 : tie.Need-same-length-3 Inv-loop μ-loop
 same-length-3 c = search needs
 
-same-length-4 : tie.Need-same-length-4 Inv-loop μ-loop
-same-length-4 c = search needs
-
-same-length-5 : tie.Need-same-length-5 Inv-loop μ-loop
-same-length-5 c = search needs
-
 returns : tie.Need-returns Inv-loop μ-loop
 returns c = search needs
 
@@ -60,6 +53,4 @@ turns-spec =
     same-length
     same-length-2
     same-length-3
-    same-length-4
-    same-length-5
     returns)

@@ -1,8 +1,8 @@
 -- The part of the chip has as many bytes as it says.
 use mathlib.Core.Path.{sym}
 use lib.Seq.{length-take-le}
-use borrow.Author.Needs.{needs}
 use native.Mathlib.Omega.{arith}
+use borrow.Author.Needs.{needs}
 use Rattle.random_calls.proofs.with_slots.Statement.{statement}
 use Rattle.random_calls.proofs.with_slots.Tie as tie
 
@@ -18,17 +18,14 @@ slice-aggregate-all-kinds c = sym (length-take-le _ _ (omega arith))
 all-kinds-requires : tie.Need-all-kinds-requires
 all-kinds-requires c κs = search needs
 
+sum-requires : tie.Need-sum-requires
+sum-requires c κs = search needs
+
 same-length : tie.Need-same-length
 same-length c = search needs
 
 same-length-2 : tie.Need-same-length-2
 same-length-2 c = search needs
-
-same-length-3 : tie.Need-same-length-3
-same-length-3 c = search needs
-
-same-length-4 : tie.Need-same-length-4
-same-length-4 c = search needs
 
 returns : tie.Need-returns
 returns c = search needs
@@ -47,10 +44,9 @@ with-slots-spec =
     slice-relend-prefix-all-kinds
     slice-aggregate-all-kinds
     all-kinds-requires
+    sum-requires
     same-length
     same-length-2
-    same-length-3
-    same-length-4
     returns
     returns-2
     returns-3)

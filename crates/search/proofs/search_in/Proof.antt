@@ -4,7 +4,7 @@ use lib.ListN.{length}
 use borrow.Author.Tests.{not-true, not-false}
 use Rattle.skiplist.specs.Skip.{serialsFrom}
 use Rattle.search.specs.Answers.{searchAnswer}
-use Rattle.search.specs.Turns.{allRows}
+use Rattle.search.specs.Inner.Turns.{allRows}
 use Rattle.search.proofs.Answered.{begun-at, found-is, counted-is, answer-damage, answer-small, answer-found}
 use borrow.Author.Needs.{needs}
 use native.Mathlib.Omega.{arith}

@@ -1,5 +1,6 @@
 -- `is_due`: by the kind of the page.
-use Rattle.segment.proofs.Tests.{due-lifts, due-tree, due-last}
+use mathlib.Core.Path.{_∙_}
+use Rattle.segment.proofs.Tests.{due-lifts, due-holds, due-last}
 use borrow.Author.Needs.{needs}
 use Rattle.segment.proofs.is_due.Statement.{statement}
 use Rattle.segment.proofs.is_due.Tie as tie
@@ -7,14 +8,17 @@ use Rattle.segment.proofs.is_due.Tie as tie
 returns : tie.Need-returns
 returns c = due-lifts _ _ _ (c .if1 .taken)
 
-mul-result : tie.Need-mul-result
-mul-result c = search needs
+holds-bucket-requires : tie.Need-holds-bucket-requires
+holds-bucket-requires c κs = search needs
 
 returns-2 : tie.Need-returns-2
-returns-2 c = due-tree _ _ _ (c .before .if1 .left) (c .if2 .taken)
+returns-2 c = c .holds-bucket .ensures ∙ due-holds _ _ _ (c .before .before .if1 .left) (c .before .if2 .taken)
+
+sections-of-requires : tie.Need-sections-of-requires
+sections-of-requires c κs = search needs
 
 returns-3 : tie.Need-returns-3
-returns-3 c = due-last _ _ _ (c .before .if1 .left) (c .if2 .left)
+returns-3 c = rw (c .sections-of .ensures) (due-last _ _ _ (c .before .before .if1 .left) (c .before .if2 .left))
 
 pub is-due-spec : {M : Type 1} → statement M
-is-due-spec = tie.close (tie.spec returns mul-result returns-2 returns-3)
+is-due-spec = tie.close (tie.spec returns holds-bucket-requires returns-2 sections-of-requires returns-3)

@@ -1,6 +1,7 @@
 -- `page_image`: by the kind of the page.
 use mathlib.Core.Path.{sym, _∙_}
-use Rattle.segment.proofs.Turns.{image-lifts, image-tree, image-bloom, image-header, tree-due}
+use Rattle.tree.proofs.Starts.{bucket-start}
+use Rattle.segment.proofs.Turns.{image-lifts, image-page, image-bloom, image-header, tree-due}
 use native.Mathlib.Omega.{arith}
 use borrow.Author.Needs.{needs}
 use Rattle.segment.proofs.page_image.Statement.{statement}
@@ -12,10 +13,12 @@ returns c = sym (image-lifts _ _ _ (c .before .if1 .taken))
 tree-page-requires : tie.Need-tree-page-requires
 tree-page-requires c κs =
     let s = c .before .before .before in
-    (tree-due _ _ _ (c .before .if1 .left) (c .if2 .taken) (s .pre .5), omega arith)
+    let b = bucket-start (s .args .c .buckets) in
+    let due = tree-due _ _ _ (c .before .if1 .left) (c .if2 .taken) (s .pre .5) in
+    (c .before .if1 .left, c .if2 .taken, omega (arith, b, due), omega (arith, b, s .pre .0, s .pre .4))
 
 returns-2 : tie.Need-returns-2
-returns-2 c = c .tree-page .ensures ∙ sym (image-tree _ _ _ (c .before .before .if1 .left) (c .before .if2 .taken))
+returns-2 c = c .tree-page .ensures ∙ sym (image-page _ _ _ (c .before .before .if1 .left) (c .before .if2 .taken))
 
 bloom-page-requires : tie.Need-bloom-page-requires
 bloom-page-requires c κs = search needs

@@ -1,5 +1,6 @@
 -- `tree_page`: the buckets that there are, in front of 255.
 use mathlib.Core.Path.{refl}
+use native.Mathlib.Omega.{arith}
 use Rattle.codec.proofs.Areas.{part-from}
 use Rattle.segment.proofs.HeaderBytes.{tree-put}
 use borrow.Author.Needs.{needs}
@@ -9,11 +10,11 @@ use Rattle.segment.proofs.tree_page.Tie as tie
 ones-requires : tie.Need-ones-requires
 ones-requires c κs = search needs
 
-mul-a : tie.Need-mul-a
-mul-a c = search needs
+page-start-requires : tie.Need-page-start-requires
+page-start-requires c κs = search needs
 
-mul-smaller : tie.Need-mul-smaller
-mul-smaller c = search needs
+start-of-requires : tie.Need-start-of-requires
+start-of-requires c κs = search needs
 
 sub-smaller : tie.Need-sub-smaller
 sub-smaller c = search needs
@@ -41,18 +42,22 @@ copy-requires c κs = search needs
 
 returns : tie.Need-returns
 returns c =
-    let s = c .before .before .before .before .before .before .before in
-    tree-put (s .args .nor .now) _ _ _ _ _ _ (s .pre .0) (s .pre .1) (c .before .before .before .before .smaller .ensures)
-    (c .before .before .before .before .before .ones .ensures)
-    (part-from _ _ _ _ refl) (c .before .copy .ensures)
+    let small = c .before .before .before .before in
+    let start = small .before in
+    let page = start .before in
+    let s = page .before .before .before in
+    let a = page .page-start .ensures in
+    let e = start .start-of .ensures in
+    tree-put (s .args .nor .now) _ _ _ _ _ _ _ _ a e (omega (arith, a, e, s .pre .2)) (omega (arith, e, s .pre .3))
+    (small .smaller .ensures) (page .before .ones .ensures) (part-from _ _ _ _ refl) (c .before .copy .ensures)
 
 pub tree-page-spec : {M : Type 1} → statement M
 tree-page-spec =
     tie.close
     (tie.spec
     ones-requires
-    mul-a
-    mul-smaller
+    page-start-requires
+    start-of-requires
     sub-smaller
     smaller-requires
     add-e

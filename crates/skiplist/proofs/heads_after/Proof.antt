@@ -1,8 +1,8 @@
 use Rattle.skiplist.specs.Skip.{headsAfter}
-use Rattle.skiplist.proofs.Paint.{painted, paint-none, paint-more, paint-front}
+use Rattle.skiplist.proofs.Paint.{painted, paint-more, paint-front}
 use lib.ListN.{length, length-set}
-use Prim.Native.Nat.{_+_, _-_, _≤_}
-use mathlib.Core.Path.{_≡_, refl, sym, _∙_}
+use Prim.Native.Nat.{_-_, _≤_}
+use mathlib.Core.Path.{_≡_}
 use native.Mathlib.Omega.{arith}
 use borrow.Author.Needs.{needs}
 use Rattle.skiplist.proofs.heads_after.Statement.{statement}

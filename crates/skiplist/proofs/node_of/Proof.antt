@@ -1,8 +1,8 @@
 use Rattle.skiplist.specs.Skip.{none, nodeOf}
 use Rattle.skiplist.proofs.Paint.{painted, paint-none, paint-more, paint-back}
 use lib.ListN.{length, length-set}
-use Prim.Native.Nat.{_+_, _-_, _≤_}
-use mathlib.Core.Path.{_≡_, refl, sym, _∙_}
+use Prim.Native.Nat.{_-_, _≤_}
+use mathlib.Core.Path.{_≡_, sym}
 use native.Mathlib.Omega.{arith}
 use borrow.Author.Needs.{needs}
 use Rattle.skiplist.proofs.node_of.Statement.{statement}

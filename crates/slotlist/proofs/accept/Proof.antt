@@ -1,7 +1,7 @@
 -- `slotlist::accept` meets its contract: a line feed, or a byte more.
 use Rattle.store.specs.World.{world}
 use mathlib.Core.Path.{_≡_, refl, ap}
-use Rattle.slotlist.proofs.Typing.{line-ended, line-longer}
+use Rattle.desk.proofs.Typing.{line-ended, line-longer}
 use native.Mathlib.Omega.{arith}
 use borrow.Author.Needs.{needs}
 use Rattle.slotlist.proofs.accept.Statement.{statement}
@@ -16,15 +16,12 @@ same-length c = search needs
 same-length-2 : tie.Need-same-length-2
 same-length-2 c = search needs
 
-same-length-3 : tie.Need-same-length-3
-same-length-3 c = search needs
-
 returns : tie.Need-returns
 returns c =
-    let e = c .before .before .before .before .before .before .obey-line .ensures in (
+    let e = c .before .before .before .before .obey-line .ensures in (
       omega (arith, e .0),
-      line-ended _ _ _ _ (c .before .before .before .before .before .before .obey-line .result)
-          (c .before .before .before .before .before .before .before .before .before .before .if1 .taken) (e .0) (e .1),
+      line-ended _ _ _ _ (c .before .before .before .before .obey-line .result)
+          (c .before .before .before .before .before .before .before .if1 .taken) (e .0) (e .1),
     )
 
 pushed-requires : tie.Need-pushed-requires
@@ -42,7 +39,6 @@ accept-spec =
     obey-line-requires
     same-length
     same-length-2
-    same-length-3
     returns
     pushed-requires
     returns-2)

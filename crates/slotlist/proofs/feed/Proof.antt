@@ -2,23 +2,23 @@
 use mathlib.Core.Path.{_≡_, refl, _∙_}
 use Prim.Native.Nat.{_≤_, _<_, _-_, _^_}
 use lib.ListN.{length, drop}
-use Rattle.slotlist.specs.Obeyed.{desk, typedAll}
-use Rattle.slotlist.proofs.Typing.{typed-step, typed-done}
+use Rattle.desk.specs.Obeyed.{desk, typedAll}
+use Rattle.desk.proofs.Typing.{typed-step, typed-done}
 use native.Mathlib.Omega.{arith}
 use borrow.Author.Needs.{needs}
 use Rattle.slotlist.proofs.feed.Statement.{statement}
 use Rattle.slotlist.proofs.feed.Tie as tie
 
 abbrev Inv-loop : tie.InvT-loop
-Inv-loop nand₀ nor₀ area₀ bytes s₀ i₀ nand nor area s i =
+Inv-loop nand₀ nor₀ bytes s₀ i₀ nand nor s i =
     (i ≤ length bytes) × ((length bytes < 2 ^ 64) × ((s .len ≤ 48) × ((length nand ≡ length nand₀) × ((length nor ≡ length nor₀)
-    × ((length area ≡ length area₀) × (typedAll (desk nand nor s) (drop i bytes) ≡ typedAll (desk nand₀ nor₀ s₀) bytes))))))
+    × (typedAll (desk nand nor s) (drop i bytes) ≡ typedAll (desk nand₀ nor₀ s₀) bytes)))))
 
 abbrev μ-loop : tie.MeasureT-loop
-μ-loop nand₀ nor₀ area₀ bytes s₀ i₀ nand nor area s i = length bytes - i
+μ-loop nand₀ nor₀ bytes s₀ i₀ nand nor s i = length bytes - i
 
 loop-holds : tie.Need-loop-holds Inv-loop μ-loop
-loop-holds c = (search needs, (search needs, (search needs, (refl, (refl, (refl, refl))))))
+loop-holds c = (search needs, (search needs, (search needs, (refl, (refl, refl)))))
 
 shared-slice-read-b : tie.Need-shared-slice-read-b Inv-loop μ-loop
 shared-slice-read-b c = search needs
@@ -34,9 +34,9 @@ loop-less c = search needs
 
 loop-again : tie.Need-loop-again Inv-loop μ-loop
 loop-again c =
-    let a = c .before .before .before .before .before .before .accept in
-    let l = c .before .before .before .before .before .before .before .before .before .before .before .before .loop .inv in
-    let t = c .before .before .before .before .before .before .before .before .before .before .before .loop-test .taken in
+    let a = c .before .before .before .before .accept in
+    let l = c .before .before .before .before .before .before .before .before .before .loop .inv in
+    let t = c .before .before .before .before .before .before .before .before .loop-test .taken in
     let m = l .1 .1 .1 in (
       omega (arith, t),
       (
@@ -47,11 +47,8 @@ loop-again c =
             a .kept .0 ∙ m .0,
             (
               a .kept .1 .0 ∙ m .1 .0,
-              (
-                a .kept .1 .1 .0 ∙ m .1 .1 .0,
-                typed-step _ _ _ _ t (a .ensures .1)
-                    ∙ m .1 .1 .1,
-              ),
+              typed-step _ _ _ _ t (a .ensures .1)
+                  ∙ m .1 .1,
             ),
           ),
         ),
@@ -64,15 +61,12 @@ same-length c = search needs
 same-length-2 : tie.Need-same-length-2 Inv-loop μ-loop
 same-length-2 c = search needs
 
-same-length-3 : tie.Need-same-length-3 Inv-loop μ-loop
-same-length-3 c = search needs
-
 returns : tie.Need-returns Inv-loop μ-loop
 returns c =
     let l = c .before .loop .inv in
-    let e : c .before .loop .i ≡ length (c .before .before .before .before .before .before .args .bytes .now) =
+    let e : c .before .loop .i ≡ length (c .before .before .before .before .before .args .bytes .now) =
     omega (arith, l .0, c .loop-test .left) in
-    (l .1 .1 .0, typed-done _ _ _ _ e (l .1 .1 .1 .1 .1 .1))
+    (l .1 .1 .0, typed-done _ _ _ _ e (l .1 .1 .1 .1 .1))
 
 pub feed-spec : {M : Type 1} → statement M
 feed-spec =
@@ -88,5 +82,4 @@ feed-spec =
     loop-again
     same-length
     same-length-2
-    same-length-3
     returns)

@@ -9,12 +9,12 @@ use Rattle.slotlist.proofs.obey_line.Tie as tie
 
 array-share-prefix-line : tie.Need-array-share-prefix-line
 array-share-prefix-line c =
-    let n : length (c .before .before .before .before .before .before .before .before .args .s .line) ≡ 48 = search needs in
+    let n : length (c .before .before .before .before .before .before .args .s .line) ≡ 48 = search needs in
     omega arith
 
 slice-aggregate-obey : tie.Need-slice-aggregate-obey
 slice-aggregate-obey c =
-    let n : length (c .before .before .before .before .before .before .before .before .before .args .s .line) ≡ 48 = search needs in
+    let n : length (c .before .before .before .before .before .before .before .args .s .line) ≡ 48 = search needs in
     sym (length-take-le _ _ (omega arith))
 
 obey-requires : tie.Need-obey-requires
@@ -25,9 +25,6 @@ same-length c = search needs
 
 same-length-2 : tie.Need-same-length-2
 same-length-2 c = search needs
-
-same-length-3 : tie.Need-same-length-3
-same-length-3 c = search needs
 
 returns : tie.Need-returns
 returns c = search needs
@@ -41,5 +38,4 @@ obey-line-spec =
     obey-requires
     same-length
     same-length-2
-    same-length-3
     returns)

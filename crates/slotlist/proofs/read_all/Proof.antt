@@ -2,17 +2,16 @@
 use mathlib.Core.Path.{_≡_, _∙_}
 use Prim.Native.Nat.{_≤_}
 use lib.ListN.{length}
-use native.Mathlib.Omega.{arith}
 use borrow.Author.Needs.{needs}
 use Rattle.slotlist.proofs.read_all.Statement.{statement}
 use Rattle.slotlist.proofs.read_all.Tie as tie
 
 abbrev Inv-loop : tie.InvT-loop
-Inv-loop nand₀ nor₀ area₀ s₀ turns₀ nand nor area s turns =
-    (s .len ≤ 48) × ((length nand ≡ length nand₀) × ((length nor ≡ length nor₀) × (length area ≡ length area₀)))
+Inv-loop nand₀ nor₀ s₀ turns₀ nand nor s turns =
+    (s .len ≤ 48) × ((length nand ≡ length nand₀) × (length nor ≡ length nor₀))
 
 abbrev μ-loop : tie.MeasureT-loop
-μ-loop nand₀ nor₀ area₀ s₀ turns₀ nand nor area s turns = turns
+μ-loop nand₀ nor₀ s₀ turns₀ nand nor s turns = turns
 
 loop-holds : tie.Need-loop-holds Inv-loop μ-loop
 loop-holds c = search needs
@@ -41,9 +40,6 @@ same-length c = search needs
 same-length-2 : tie.Need-same-length-2 Inv-loop μ-loop
 same-length-2 c = search needs
 
-same-length-3 : tie.Need-same-length-3 Inv-loop μ-loop
-same-length-3 c = search needs
-
 returns : tie.Need-returns Inv-loop μ-loop
 returns c = search needs
 
@@ -62,5 +58,4 @@ read-all-spec =
     loop-again-2
     same-length
     same-length-2
-    same-length-3
     returns)

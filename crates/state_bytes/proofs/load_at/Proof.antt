@@ -1,8 +1,7 @@
 -- `state_bytes::load_at` meets its contract: the signed reading of the number there.
-use mathlib.Core.Path.{_≡_, ap, _∙_}
+use mathlib.Core.Path.{ap, _∙_}
 use Rattle.state_bytes.specs.Signed.{signed, loadAt}
 use Rattle.state_bytes.proofs.Signs.{read-back}
-use native.Mathlib.Omega.{arith}
 use borrow.Author.Needs.{needs}
 use Rattle.state_bytes.proofs.load_at.Statement.{statement}
 use Rattle.state_bytes.proofs.load_at.Tie as tie

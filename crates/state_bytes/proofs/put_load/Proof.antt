@@ -1,5 +1,5 @@
 -- `state_bytes::put_load` meets its contract: the four bytes of its bits.
-use mathlib.Core.Path.{_≡_, ap, _∙_}
+use mathlib.Core.Path.{ap, _∙_}
 use Prim.Native.Nat.{ℕ}
 use denote.Ref.{now}
 use mir.Syntax.{w32}
@@ -7,7 +7,6 @@ use mir.ValLaws.{toZ-ofZ}
 use Rattle.codec.specs.Area.{splice}
 use Rattle.codec.specs.Number.{bytes}
 use Rattle.state_bytes.specs.Signed.{unsigned, loadBytes}
-use native.Mathlib.Omega.{arith}
 use borrow.Author.Needs.{needs}
 use Rattle.state_bytes.proofs.put_load.Statement.{statement}
 use Rattle.state_bytes.proofs.put_load.Tie as tie

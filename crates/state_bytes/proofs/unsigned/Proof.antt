@@ -1,13 +1,11 @@
 -- `state_bytes::unsigned` meets its contract: the number itself, or the complement of −1 less it.
-use mathlib.Core.Path.{_≡_, sym, ap, _∙_}
-use mathlib.Core.Bool.{true, false}
+use mathlib.Core.Path.{sym, ap, _∙_}
 use lib.IntN.{pos}
 use lib.Signed.{leZ, mag}
 use mir.Syntax.{w32}
 use mir.ValLaws.{toZ-ofZ, toZ-pos}
 use Rattle.state_bytes.proofs.Signs.{plain, negative}
 use native.Mathlib.Omega.{arith}
-use borrow.Author.Needs.{needs}
 use Rattle.state_bytes.proofs.unsigned.Statement.{statement}
 use Rattle.state_bytes.proofs.unsigned.Tie as tie
 

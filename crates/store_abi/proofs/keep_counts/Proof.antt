@@ -1,7 +1,6 @@
 -- `store_abi::keep_counts` meets its contract.
 use mathlib.Core.Path.{sym, _∙_}
 use Rattle.store_abi.proofs.Leaves.{kept-new, kept-old}
-use native.Mathlib.Omega.{arith}
 use borrow.Author.Needs.{needs}
 use Rattle.store_abi.proofs.keep_counts.Statement.{statement}
 use Rattle.store_abi.proofs.keep_counts.Tie as tie

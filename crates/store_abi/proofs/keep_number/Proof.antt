@@ -3,7 +3,6 @@ use mathlib.Core.Path.{sym, _∙_}
 use Rattle.codec.proofs.Areas.{splice-all}
 use Rattle.codec.proofs.Numbers.{length-bytes}
 use Rattle.store_abi.proofs.Leaves.{kept-new, kept-old}
-use native.Mathlib.Omega.{arith}
 use borrow.Author.Needs.{needs}
 use Rattle.store_abi.proofs.keep_number.Statement.{statement}
 use Rattle.store_abi.proofs.keep_number.Tie as tie

@@ -1,7 +1,6 @@
 -- `store_abi::keep_state` meets its contract.
 use mathlib.Core.Path.{refl, sym, _∙_}
 use Rattle.store_abi.proofs.Leaves.{kept-new, kept-old}
-use native.Mathlib.Omega.{arith}
 use borrow.Author.Needs.{needs}
 use Rattle.store_abi.proofs.keep_state.Statement.{statement}
 use Rattle.store_abi.proofs.keep_state.Tie as tie

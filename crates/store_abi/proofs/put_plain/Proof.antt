@@ -4,7 +4,7 @@ use mir.Syntax.{w32}
 use mir.ValLaws.{toZ-ofZ}
 use Rattle.lift.specs.Limits.{stored}
 use Rattle.lift.proofs.Codes.{within-limits}
-use Rattle.grow.specs.Meaning.{meaning}
+use Rattle.grow.specs.Inner.Meaning.{meaning}
 use Rattle.store_abi.proofs.Appended.{entered, placed}
 use native.Mathlib.Omega.{arith}
 use borrow.Author.Needs.{needs}

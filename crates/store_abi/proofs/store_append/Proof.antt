@@ -4,7 +4,7 @@ use mir.Syntax.{w32}
 use mir.Val.{toZ, ofZ}
 use mir.ValLaws.{toZ-ofZ}
 use Rattle.store.specs.World.{world}
-use Rattle.store.specs.Pieces.{Accepted}
+use Rattle.store.specs.Inner.Pieces.{Accepted}
 use Rattle.store.proofs.Grounds.{standing}
 use Rattle.store_abi.specs.Areas.{appendCalled}
 use Rattle.store_abi.proofs.Leaves.{wrong-length}
@@ -21,8 +21,8 @@ returns c = wrong-length _ _ _ _ (c .if1 .taken)
 get-state-requires : tie.Need-get-state-requires
 get-state-requires c κs = search needs
 
-planned-requires : tie.Need-planned-requires
-planned-requires c κs = search needs
+plan-append-requires : tie.Need-plan-append-requires
+plan-append-requires c κs = search needs
 
 same-length : tie.Need-same-length
 same-length c = search needs
@@ -34,20 +34,20 @@ same-length-3 : tie.Need-same-length-3
 same-length-3 c = search needs
 
 -- no ground refuses it
-zero : (c : tie.Else2) → c .before .planned .result .number ≡ 0
+zero : (c : tie.Else2) → c .before .plan-append .result .number ≡ 0
 zero c = omega (arith, c .if2 .left)
 
 accepted : (c : tie.Else2)
     → let a = c .before .before .before .before .before .before .before .before .before .before .before .args in Accepted (world (a .nand .now) (a .nor .now) (c .before .before .before .before .get-state .result)) (a .slots) (a .time)
-    (toZ w32 (ofZ w32 (a .load))) (c .before .planned .result .plan)
-accepted c = c .before .planned .ensures .1 (zero c)
+    (toZ w32 (ofZ w32 (a .load))) (c .before .plan-append .result .plan)
+accepted c = c .before .plan-append .ensures .1 (zero c)
 
 returns-2 : tie.Need-returns-2
 returns-2 c =
     let s = c .before .before .before .before .before .before .before .before .before .before .before in
     let a = s .args in
     refused-left (a .state .now) (a .nand .now) (a .nor .now) _ _ _ _ (a .load) (a .note .now) _ (c .before .before .before .before .before .before .before .if1 .left)
-    (c .before .before .before .before .get-state .ensures) (toZ-ofZ w32 (a .load) (s .fits .load)) (c .before .planned .ensures .0) (c .if2 .taken)
+    (c .before .before .before .before .get-state .ensures) (toZ-ofZ w32 (a .load) (s .fits .load)) (c .before .plan-append .ensures .0) (c .if2 .taken)
 
 is-plain-requires : tie.Need-is-plain-requires
 is-plain-requires c κs = standing _ _ _ _ (accepted c .bounds) .serials .rising
@@ -75,7 +75,7 @@ returns-3 c =
     let n = c .before .before .before .before .before .before .before .before .before in
     let put = c .before .before .before .before .put-plain .ensures in
     plain-left (a .state .now) (a .nand .now) (a .nor .now) _ _ _ _ (a .load) (a .note .now) _ (c .before .before .before .before .before .before .before .before .before .before .before .before .before .before .before .before .if1 .left)
-    (c .before .before .before .before .before .before .before .before .before .before .before .before .before .get-state .ensures) (toZ-ofZ w32 (a .load) (s .fits .load)) (c .before .before .before .before .before .before .before .before .before .before .planned .ensures .0) _ (zero n) (accepted n)
+    (c .before .before .before .before .before .before .before .before .before .before .before .before .before .get-state .ensures) (toZ-ofZ w32 (a .load) (s .fits .load)) (c .before .before .before .before .before .before .before .before .before .before .plan-append .ensures .0) _ (zero n) (accepted n)
     _ _ _ (c .before .before .before .before .before .before .before .before .is-plain .ensures) (c .before .before .before .before .before .before .before .if3 .taken) (put .0) (put .1)
 
 carried-out-requires : tie.Need-carried-out-requires
@@ -101,7 +101,7 @@ returns-4 c =
     let a = s .args in
     let n = c .before .before .before .before .before .before .before .before .before .before .before .before .before in
     carried-left (a .state .now) (a .nand .now) (a .nor .now) _ _ _ _ (a .load) (a .note .now) _ (c .before .before .before .before .before .before .before .before .before .before .before .before .before .before .before .before .before .before .before .before .if1 .left)
-    (c .before .before .before .before .before .before .before .before .before .before .before .before .before .before .before .before .before .get-state .ensures) (toZ-ofZ w32 (a .load) (s .fits .load)) (c .before .before .before .before .before .before .before .before .before .before .before .before .before .before .planned .ensures .0) _ (zero n) (accepted n)
+    (c .before .before .before .before .before .before .before .before .before .before .before .before .before .before .before .before .before .get-state .ensures) (toZ-ofZ w32 (a .load) (s .fits .load)) (c .before .before .before .before .before .before .before .before .before .before .before .before .before .before .plan-append .ensures .0) _ (zero n) (accepted n)
     _ _ _ _ (c .before .before .before .before .before .before .before .before .carried-out .ensures) (c .before .before .put-state .ensures)
 
 pub store-append-spec : {M : Type 1} → statement M
@@ -110,7 +110,7 @@ store-append-spec =
     (tie.spec
     returns
     get-state-requires
-    planned-requires
+    plan-append-requires
     same-length
     same-length-2
     same-length-3

@@ -1,10 +1,9 @@
 -- `store_abi::store_drop` meets its contract: the store's call on the state that the area holds.
-use mathlib.Core.Path.{_≡_, ap, _∙_}
+use mathlib.Core.Path.{ap, _∙_}
 use Rattle.store.specs.World.{world}
 use Rattle.store.specs.Calls.{dropOutcome}
 use Rattle.store_abi.specs.Areas.{dropCalled}
 use Rattle.store_abi.proofs.Leaves.{wrong-length, right-length}
-use native.Mathlib.Omega.{arith}
 use borrow.Author.Needs.{needs}
 use Rattle.store_abi.proofs.store_drop.Statement.{statement}
 use Rattle.store_abi.proofs.store_drop.Tie as tie

@@ -1,8 +1,6 @@
 -- `store_abi::store_format` meets its contract: the store's call on the state that the area holds.
-use mathlib.Core.Path.{_≡_, ap, _∙_}
 use Rattle.store_abi.specs.Areas.{formatCalled}
 use Rattle.store_abi.proofs.Leaves.{wrong-length, right-length}
-use native.Mathlib.Omega.{arith}
 use borrow.Author.Needs.{needs}
 use Rattle.store_abi.proofs.store_format.Statement.{statement}
 use Rattle.store_abi.proofs.store_format.Tie as tie

@@ -5,7 +5,6 @@ use mir.ValLaws.{toZ-ofZ}
 use Rattle.plate.specs.Plate.{lookup}
 use Rattle.store_abi.specs.Areas.{plateCalled}
 use Rattle.store_abi.proofs.Leaves.{one-wrong, one-right, plate-left}
-use native.Mathlib.Omega.{arith}
 use borrow.Author.Needs.{needs}
 use Rattle.store_abi.proofs.store_plate.Statement.{statement}
 use Rattle.store_abi.proofs.store_plate.Tie as tie

@@ -1,5 +1,5 @@
 -- `store_abi::store_search` meets its contract: the store's search on the state that the area holds, its count in the answer's area.
-use mathlib.Core.Path.{_≡_, ap, ap₂, _∙_}
+use mathlib.Core.Path.{ap, ap₂, _∙_}
 use lib.IntN.{ℤ}
 use mir.Syntax.{w32}
 use mir.Val.{toZ, ofZ}
@@ -7,11 +7,10 @@ use mir.ValLaws.{toZ-ofZ}
 use Rattle.search.specs.Answers.{SearchAnswer}
 use Rattle.store.specs.declared.State.{State}
 use Rattle.store.specs.World.{world}
-use Rattle.store.specs.Queries.{searchOutcome}
+use Rattle.questions.specs.Queries.{searchOutcome}
 use Rattle.state_bytes.specs.StateBytes.{stateIn}
 use Rattle.store_abi.specs.Areas.{searchCalled}
 use Rattle.store_abi.proofs.Leaves.{state-wrong, answer-wrong, both-right, search-left}
-use native.Mathlib.Omega.{arith}
 use borrow.Author.Needs.{needs}
 use Rattle.store_abi.proofs.store_search.Statement.{statement}
 use Rattle.store_abi.proofs.store_search.Tie as tie

@@ -1,11 +1,10 @@
 -- `store_abi::store_tally` meets its contract: the store's tally on the state that the area holds, its counts in the answer's area.
-use mathlib.Core.Path.{_≡_, ap, _∙_}
+use mathlib.Core.Path.{ap, _∙_}
 use mathlib.Core.List.{[]}
 use Rattle.store.specs.World.{world}
-use Rattle.store.specs.Queries.{tallyOutcome}
+use Rattle.questions.specs.Queries.{tallyOutcome}
 use Rattle.store_abi.specs.Areas.{tallyCalled}
 use Rattle.store_abi.proofs.Leaves.{state-wrong, answer-wrong, both-right, tally-left}
-use native.Mathlib.Omega.{arith}
 use borrow.Author.Needs.{needs}
 use Rattle.store_abi.proofs.store_tally.Statement.{statement}
 use Rattle.store_abi.proofs.store_tally.Tie as tie

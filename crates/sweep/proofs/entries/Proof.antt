@@ -2,7 +2,7 @@
 use Prim.Native.Nat.{_-_}
 use native.Mathlib.Omega.{arith}
 use Rattle.tree.specs.Reading.{entriesFrom}
-use Rattle.sweep.specs.Turns.{codesOf, withEntries}
+use Rattle.sweep.specs.Inner.Turns.{codesOf, withEntries}
 use Rattle.sweep.proofs.Passing.{Passed, passed-none, position-below, passed-more, passed-all}
 use borrow.Author.Needs.{needs}
 use Rattle.sweep.proofs.entries.Statement.{statement}

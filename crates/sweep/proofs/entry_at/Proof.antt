@@ -2,7 +2,7 @@
 use mathlib.Core.Path.{sym, _∙_}
 use borrow.Author.Tests.{not-true, not-false}
 use Rattle.tree.specs.Reading.{entryIn}
-use Rattle.sweep.specs.Turns.{codesOf}
+use Rattle.sweep.specs.Inner.Turns.{codesOf}
 use Rattle.sweep.proofs.Passing.{entry-out, entry-in}
 use borrow.Author.Needs.{needs}
 use Rattle.sweep.proofs.entry_at.Statement.{statement}

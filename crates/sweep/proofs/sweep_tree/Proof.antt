@@ -2,8 +2,8 @@
 use mathlib.Core.Path.{_≡_, _∙_}
 use Prim.Native.Nat.{_-_, _≤_}
 use native.Mathlib.Omega.{arith}
-use Rattle.sweep.specs.Swept.{sweptOf}
-use Rattle.sweep.specs.Turns.{codesOf, onward}
+use Rattle.sweep.specs.Inner.Swept.{sweptOf}
+use Rattle.sweep.specs.Inner.Turns.{codesOf, onward}
 use Rattle.sweep.proofs.Visits.{turn-first, turn-next, turn-last}
 use borrow.Author.Needs.{needs}
 use Rattle.sweep.proofs.sweep_tree.Statement.{statement}

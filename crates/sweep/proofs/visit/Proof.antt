@@ -2,14 +2,16 @@
 use mathlib.Core.Path.{_≡_, refl, sym, ap, _∙_}
 use mathlib.Core.Bool.{Bool, true, _&&_}
 use mathlib.Core.List.{List}
-use Prim.Native.Nat.{ℕ, _*_}
+use Prim.Native.Nat.{ℕ}
 use native.Mathlib.Omega.{arith}
 use lib.ListN.{length}
 use borrow.Author.Tests.{not-true, not-false}
 use Rattle.codec.proofs.Areas.{length-part}
+use Rattle.tree.specs.Place.{bucketStart}
 use Rattle.tree.specs.Reading.{bucketAt, entriesFrom}
-use Rattle.tree.specs.Seen.{seenNode}
-use Rattle.sweep.specs.Turns.{isDue, codesOf, withEntries}
+use Rattle.tree.specs.Inner.Seen.{seenNode}
+use Rattle.sweep.specs.Inner.Turns.{isDue, codesOf, withEntries}
+use Rattle.tree.proofs.Starts.{bucket-start}
 use Rattle.sweep.proofs.Visits.{Opened, opened, turn-passes, turn-spoilt, turn-opens}
 use borrow.Author.Needs.{needs}
 use Rattle.sweep.proofs.visit.Statement.{statement}
@@ -19,7 +21,8 @@ use Rattle.sweep.proofs.visit.Tie as tie
 bytes : (c : tie.After-bucket-of) → length (c .bucket-of .result .now) ≡ 128
 bytes c =
     let d = c .before .before .before .before .before .before .before .before in
-    ap length (c .bucket-of .ensures) ∙ length-part (d .args .tree .now) (128 * d .args .b) 128 (omega (arith, d .pre))
+    ap length (c .bucket-of .ensures) ∙ length-part (d .args .tree .now) (bucketStart (d .args .b)) 128
+    (omega (arith, bucket-start (d .args .b), d .pre))
 
 seen : (c : tie.After-node-in) → let a = c .before .before .before .before .before .before .before .before .before .args in
     c .node-in .result ≡ seenNode (bucketAt (a .tree .now) (a .b)) (a .b) (a .g .buckets) (a .g .count)
@@ -51,7 +54,9 @@ returns c =
     (ap (λ (q : Bool). a .t .good && q) (sym (c .before .before .is-due .ensures)) ∙ not-true _ (c .if1 .taken))
 
 bucket-of-requires : tie.Need-bucket-of-requires
-bucket-of-requires c κs = search needs
+bucket-of-requires c κs =
+    let d = c .before .before .before .before .before .before .before in
+    omega (arith, bucket-start (d .args .b), d .pre)
 
 node-in-requires : tie.Need-node-in-requires
 node-in-requires c κs = omega (arith, bytes c)

@@ -7,8 +7,8 @@ use lib.ListN.{length}
 use borrow.Author.Tests.{not-true, not-false}
 use Rattle.lift.specs.Rows.{timeIn}
 use Rattle.bitset.specs.declared.Bits.{Bits}
-use Rattle.bitset.specs.Set.{emptyWords, insertAll, members, picked, has}
-use Rattle.bitset.proofs.Set.{Below}
+use Rattle.bitset.specs.Set.{picked}
+use Rattle.bitset.specs.Inner.Words.{emptyWords, insertAll, members, has, Below}
 use Rattle.walk.specs.Visit.{timely}
 use Rattle.walk.proofs.Emptying.{recorded-at, emptied-less, emptied-below, Kept, kept-none, kept-all, kept-in, kept-out}
 use borrow.Author.Needs.{needs}

@@ -1,6 +1,5 @@
 -- `next`: the first word that is not 0 has the lowest place, by its trailing zeros; the words passed are 0.
 use mathlib.Core.Path.{_≡_, sym}
-use Prim.Native.Nat.{ℕ}
 use lib.ListN.{length, getD}
 use mir.Syntax.{w64}
 use mir.Val.{Fits}

@@ -1,7 +1,7 @@
 -- `search::count::count_closed` meets its contract: what is counted and what is left come to the whole.
 use mathlib.Core.Path.{refl}
 use Rattle.skiplist.specs.Skip.{serialsFrom}
-use Rattle.search.specs.Turns.{rowsAfter, countOf}
+use Rattle.search.specs.Inner.Turns.{rowsAfter, countOf}
 use Rattle.search.proofs.Counts.{CountGoes, count-again, count-over}
 use native.Mathlib.Omega.{arith}
 use Rattle.search.proofs.count.count_closed.Statement.{statement}

@@ -1,5 +1,6 @@
 -- `search::count::count_on` meets its contract: the end, damage, a segment passed over, a segment counted.
 use mathlib.Core.Path.{sym, _∙_}
+use native.Mathlib.Omega.{arith}
 use Rattle.skiplist.specs.Skip.{serialsFrom}
 use Rattle.search.proofs.Counts.{count-end, count-damage, count-pass, count-visit}
 use Rattle.search.proofs.Segments.{visit-facts}
@@ -29,7 +30,7 @@ count-one-requires c κs =
           (c .before .before .before .before .before .before .before .pre .0 .0) (a .r .c)
           (c .before .before .before .before .before .before .before .pre .1 .0) _ _
           (sym (c .before .before .before .advance .ensures) ∙ c .before .step2 .given .1) .0,
-      c .before .before .before .before .before .before .before .pre .0 .2,
+      omega (arith, c .before .before .before .before .before .before .before .pre .0 .2),
     )
 
 returns : tie.Need-returns

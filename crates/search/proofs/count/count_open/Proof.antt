@@ -1,6 +1,6 @@
 -- `search::count::count_open` meets its contract: no lifts, or as many rows as the set has places.
 use mathlib.Core.Path.{sym, ap, _∙_}
-use Rattle.search.specs.Turns.{countOf}
+use Rattle.search.specs.Inner.Turns.{countOf}
 use Rattle.search.proofs.Matched.{open-none, open-counted}
 use borrow.Author.Needs.{needs}
 use Rattle.search.proofs.count.count_open.Statement.{statement}

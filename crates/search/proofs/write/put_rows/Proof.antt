@@ -5,7 +5,7 @@ use Prim.Native.Nat.{_*_}
 use lib.ListN.{length}
 use borrow.Author.Tests.{not-true, not-false}
 use Rattle.codec.specs.Area.{splice}
-use Rattle.bitset.specs.Set.{members}
+use Rattle.bitset.specs.Inner.Words.{members}
 use Rattle.lift.specs.Rows.{recordIn}
 use Rattle.walk.proofs.Emptying.{recorded-at, emptied-less}
 use Rattle.search.specs.Answers.{rowBytes}

@@ -1,6 +1,5 @@
 -- `state_bytes::in_place::counters_after` meets its contract, field by field.
 use Rattle.state_bytes.proofs.InPlace.{counters-made}
-use native.Mathlib.Omega.{arith}
 use borrow.Author.Needs.{needs}
 use Rattle.state_bytes.proofs.in_place.counters_after.Statement.{statement}
 use Rattle.state_bytes.proofs.in_place.counters_after.Tie as tie

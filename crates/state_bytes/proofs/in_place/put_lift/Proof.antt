@@ -5,13 +5,14 @@ use mir.Syntax.{w32}
 use mir.ValLaws.{toZ-ofZ}
 use Rattle.bounds.specs.Lifts.{pushed}
 use Rattle.bloom.specs.Bloom.{noted}
-use Rattle.store.specs.Pieces.{stateGiven}
-use Rattle.state_bytes.specs.StateBytes.{spanOf, stateIn}
+use Rattle.state_bytes.specs.StateBytes.{stateIn}
+use Rattle.state_bytes.specs.Inner.Fields.{spanOf}
 use Rattle.state_bytes.proofs.InPlace.{lift-made}
 use native.Mathlib.Omega.{arith}
 use borrow.Author.Needs.{needs}
 use Rattle.state_bytes.proofs.in_place.put_lift.Statement.{statement}
 use Rattle.state_bytes.proofs.in_place.put_lift.Tie as tie
+use Rattle.store.specs.World.{stateGiven}
 
 get-u16-requires : tie.Need-get-u16-requires
 get-u16-requires c κs = search needs
@@ -71,7 +72,7 @@ returns c =
     (c .before .before .before .before .before .before .before .before .before .before .counters-after .ensures (a .load))
     (λ page section.
     c .before .before .before .before .before .before .before .before .span-after .ensures (a .buckets) page section
-    ∙ ap (λ z. spanOf (stateGiven (stateIn (a .b .now)) (a .time) z (a .buckets) page section)) load)
+    ∙ ap (λ z. spanOf (stateGiven (stateIn (a .b .now)) (a .time) z (a .time) (a .buckets) page section)) load)
     (c .before .before .before .before .before .before .put-record .ensures) (c .before .before .put-around .ensures)
 
 pub put-lift-spec : {M : Type 1} → statement M

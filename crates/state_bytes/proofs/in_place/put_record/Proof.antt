@@ -1,6 +1,5 @@
 -- `state_bytes::in_place::put_record` meets its contract: three fields side by side.
 use Rattle.lift.proofs.Records.{record-steps}
-use native.Mathlib.Omega.{arith}
 use borrow.Author.Needs.{needs}
 use Rattle.state_bytes.proofs.in_place.put_record.Statement.{statement}
 use Rattle.state_bytes.proofs.in_place.put_record.Tie as tie

@@ -3,9 +3,7 @@ use mathlib.Core.Path.{ap₂, _∙_}
 use mir.Syntax.{w32}
 use mir.ValLaws.{toZ-ofZ}
 use Rattle.bounds.specs.Lifts.{lowWith, highWith}
-use Rattle.state_bytes.proofs.Signs.{read-back}
 use Rattle.state_bytes.proofs.InPlace.{span-made}
-use native.Mathlib.Omega.{arith}
 use borrow.Author.Needs.{needs}
 use Rattle.state_bytes.proofs.in_place.span_after.Statement.{statement}
 use Rattle.state_bytes.proofs.in_place.span_after.Tie as tie

@@ -1,22 +1,20 @@
 -- `append`: refused by its number, else carried out by its plan.
-use mathlib.Core.Path.{_≡_, sym, ap, _∙_}
-use lib.IntN.{ℤ}
+use mathlib.Core.Path.{_≡_, ap, _∙_}
 use mir.Syntax.{w32}
-use mir.Val.{toZ, ofZ}
 use mir.ValLaws.{toZ-ofZ}
 use Rattle.lift.specs.Limits.{loadOk}
-use Rattle.grow.specs.Meaning.{meaning}
+use Rattle.grow.specs.Inner.Meaning.{meaning}
 use Rattle.store.specs.World.{world}
 use Rattle.store.specs.Calls.{appendGround}
-use Rattle.store.specs.Pieces.{Accepted}
+use Rattle.store.specs.Inner.Pieces.{Accepted}
 use Rattle.store.proofs.Plain.{append-refused, append-carried, number-of, accepted-of}
 use native.Mathlib.Omega.{arith}
 use borrow.Author.Needs.{needs}
 use Rattle.store.proofs.State.append.Statement.{statement}
 use Rattle.store.proofs.State.append.Tie as tie
 
-planned-requires : tie.Need-planned-requires
-planned-requires c κs = search needs
+plan-append-requires : tie.Need-plan-append-requires
+plan-append-requires c κs = search needs
 
 same-length : tie.Need-same-length
 same-length c = search needs
@@ -25,20 +23,20 @@ same-length-2 : tie.Need-same-length-2
 same-length-2 c = search needs
 
 -- the number, of the load itself
-number : (c : tie.After-planned) → let a = c .before .before .before .before .before .args in
-    c .planned .result .number ≡ appendGround (world (a .nand .now) (a .nor .now) (a .self)) (a .slots) (a .time) (a .load)
+number : (c : tie.After-plan-append) → let a = c .before .before .before .before .before .args in
+    c .plan-append .result .number ≡ appendGround (world (a .nand .now) (a .nor .now) (a .self)) (a .slots) (a .time) (a .load)
 number c =
     let s = c .before .before .before .before .before in
     let a = s .args in
-    number-of (world (a .nand .now) (a .nor .now) (a .self)) _ _ _ (a .load) (toZ-ofZ w32 (a .load) (s .fits .load)) _ (c .planned .ensures .0)
+    number-of (world (a .nand .now) (a .nor .now) (a .self)) _ _ _ (a .load) (toZ-ofZ w32 (a .load) (s .fits .load)) _ (c .plan-append .ensures .0)
 
 accepted : (c : tie.Else1) → let a = c .before .before .before .before .before .before .args in
-    Accepted (world (a .nand .now) (a .nor .now) (a .self)) (a .slots) (a .time) (a .load) (c .before .planned .result .plan)
+    Accepted (world (a .nand .now) (a .nor .now) (a .self)) (a .slots) (a .time) (a .load) (c .before .plan-append .result .plan)
 accepted c =
     let s = c .before .before .before .before .before .before in
     let a = s .args in
     accepted-of (world (a .nand .now) (a .nor .now) (a .self)) _ _ _ (a .load) (toZ-ofZ w32 (a .load) (s .fits .load)) _
-    (c .before .planned .ensures .1 (omega (arith, c .if1 .left)))
+    (c .before .plan-append .ensures .1 (omega (arith, c .if1 .left)))
 
 returns : tie.Need-returns
 returns c =
@@ -64,14 +62,14 @@ returns-2 c =
     let s = n .before .before .before .before .before .before in
     let a = s .args in
     append-carried (world (a .nand .now) (a .nor .now) (a .self)) _ _ (a .load) (a .note) _ (number (n .before))
-    (meaning (n .before .planned .result .plan)) _ _ (omega (arith, n .if1 .left)) (accepted n .is)
+    (meaning (n .before .plan-append .result .plan)) _ _ (omega (arith, n .if1 .left)) (accepted n .is)
     (toZ-ofZ w32 (a .load) (s .fits .load)) (c .before .before .before .before .carried-out .ensures)
 
 pub append-spec : {M : Type 1} → statement M
 append-spec =
     tie.close
     (tie.spec
-    planned-requires
+    plan-append-requires
     same-length
     same-length-2
     returns

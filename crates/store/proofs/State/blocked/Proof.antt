@@ -1,11 +1,10 @@
 -- `blocked`: damage on the path, a close, or neither.
 use mathlib.Core.Path.{sym, ap, _∙_}
 use lib.ListN.{length}
-use Rattle.grow.specs.Meaning.{meaning}
+use Rattle.grow.specs.Inner.Meaning.{meaning}
 use Rattle.store.specs.World.{world}
 use Rattle.form.specs.declared.Form.the-variants.{New}
-use Rattle.store.specs.Calls.{boundsGround}
-use Rattle.store.specs.Pieces.{laterGround}
+use Rattle.store.specs.Inner.Pieces.{laterGround, boundsGround}
 use Rattle.store.proofs.Grounds.{standing}
 use Rattle.store.proofs.Blocked.{full-is, damaged-later}
 use borrow.Author.Needs.{needs}

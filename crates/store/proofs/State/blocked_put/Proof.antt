@@ -1,6 +1,6 @@
 -- `blocked_put`: the NOR bytes due for writing, then the page that the lift fills.
 use mathlib.Core.Path.{sym, ap, _∙_}
-use Rattle.grow.specs.Meaning.{meaning}
+use Rattle.grow.specs.Inner.Meaning.{meaning}
 use Rattle.bounds.specs.Grounds.{ground}
 use Rattle.store.proofs.Grounds.{standing}
 use Rattle.store.proofs.Blocked.{put-damaged, put-unerased}

@@ -1,0 +1,4 @@
+pub mod Justified
+pub mod Printing
+pub mod ReadBack
+pub mod Example

@@ -1,0 +1,2 @@
+pub mod Emptying
+pub mod Words

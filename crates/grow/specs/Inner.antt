@@ -1,0 +1,3 @@
+pub mod Meaning
+pub mod Sight
+pub mod Written

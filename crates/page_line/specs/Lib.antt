@@ -1,0 +1,2 @@
+pub mod ServicePage
+pub mod Inner

@@ -1,0 +1,2 @@
+pub mod Seeking
+pub mod Rising

@@ -1,0 +1,2 @@
+pub mod Retained
+pub mod Inner

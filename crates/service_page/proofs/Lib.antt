@@ -1,0 +1,3 @@
+pub mod PageWritten
+pub mod PageShown
+pub mod Example

@@ -1,3 +1,0 @@
-pub mod Obeying
-pub mod Typing
-pub mod ServicePage

@@ -1,2 +1,0 @@
-pub mod Obeyed
-pub mod ServicePage

@@ -1,0 +1,3 @@
+pub mod Codes
+pub mod Tallies
+pub mod PlateTurns
