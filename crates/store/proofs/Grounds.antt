@@ -1,5 +1,5 @@
 -- Grounds 1 to 3 as tested, and what is known where none holds. Assumes nothing.
-use mathlib.Core.Path.{_≡_}
+use mathlib.Core.Path.{_≡_, sym, _∙_}
 use mathlib.Core.Bool.{Bool, true, false, not, _&&_}
 use mathlib.Core.List.{List, [], _∷_}
 use Prim.Native.Nat.{ℕ}
@@ -112,3 +112,7 @@ standing-in f s live nand nor slots e =
 pub standing : (s : State) (nand nor slots : ℕ) → boundsGround New s 0 nand nor slots ≡ 0 → Standing s nand nor slots
 unfolding boundsGround
 standing s nand nor slots e = standing-in New s 0 nand nor slots e
+
+-- the same where a call has judged them and found none
+pub standing-judged : (s : State) (nand nor slots n : ℕ) → n ≡ boundsGround New s 0 nand nor slots → n ≡ 0 → Standing s nand nor slots
+standing-judged s nand nor slots n judged zero = standing s nand nor slots (sym judged ∙ zero)

@@ -1,8 +1,7 @@
-use mathlib.Core.Path.{_≡_, sym, _∙_}
-use lib.ListN.{length}
 -- `close`: a refusal for each test, else the open segment is closed.
+use mathlib.Core.Path.{_≡_, sym, _∙_}
 use Rattle.store.proofs.Outcomes.{close-bounds, close-none, close-unerased, close-done}
-use Rattle.store.proofs.Grounds.{Standing, standing}
+use Rattle.store.proofs.Grounds.{standing-judged}
 use native.Mathlib.Omega.{arith}
 use borrow.Author.Needs.{needs}
 use Rattle.store.proofs.State.close.Statement.{statement}
@@ -20,11 +19,6 @@ returns c =
 zero : (c : tie.Else1) → c .before .ground .result ≡ 0
 zero c = omega (arith, c .if1 .left)
 
-stand : (c : tie.Else1)
-    → let a = c .before .before .before .before .args in Standing (a .self) (length (a .nand .now)) (length (a .nor .now))
-    (a .slots)
-stand c = standing _ _ _ _ (sym (c .before .ground .ensures) ∙ zero c)
-
 returns-2 : tie.Need-returns-2
 returns-2 c =
     let n = c .before .before in
@@ -33,12 +27,12 @@ returns-2 c =
 
 slot-of-requires : tie.Need-slot-of-requires
 slot-of-requires c κs =
-    let st = stand (c .before .before) in
+    let st = standing-judged _ _ _ _ _ (c .before .before .before .ground .ensures) (zero (c .before .before)) in
     (omega (arith, st .serials .first, st .serials .rising), omega (arith, st .chips .least))
 
 pages-erased-requires : tie.Need-pages-erased-requires
 pages-erased-requires c κs =
-    let st = stand (c .before .before .before .before) in
+    let st = standing-judged _ _ _ _ _ (c .before .before .before .before .before .ground .ensures) (zero (c .before .before .before .before)) in
     omega (arith, st .chips .nand-size, c .before .slot-of .ensures .1)
 
 same-length : tie.Need-same-length

@@ -1,8 +1,7 @@
-use mathlib.Core.Path.{_≡_, sym, _∙_}
-use lib.ListN.{length}
 -- `drop`: a refusal for each test, else the oldest closed segment is erased.
+use mathlib.Core.Path.{_≡_, sym, _∙_}
 use Rattle.store.proofs.Outcomes.{drop-bounds, drop-none, drop-done}
-use Rattle.store.proofs.Grounds.{Standing, standing}
+use Rattle.store.proofs.Grounds.{standing-judged}
 use native.Mathlib.Omega.{arith}
 use borrow.Author.Needs.{needs}
 use Rattle.store.proofs.State.drop.Statement.{statement}
@@ -20,11 +19,6 @@ returns c =
 zero : (c : tie.Else1) → c .before .ground .result ≡ 0
 zero c = omega (arith, c .if1 .left)
 
-stand : (c : tie.Else1)
-    → let a = c .before .before .before .before .args in Standing (a .self) (length (a .nand .now)) (length (a .nor .now))
-    (a .slots)
-stand c = standing _ _ _ _ (sym (c .before .ground .ensures) ∙ zero c)
-
 returns-2 : tie.Need-returns-2
 returns-2 c =
     let n = c .before .before in
@@ -33,7 +27,7 @@ returns-2 c =
 
 dropped-requires : tie.Need-dropped-requires
 dropped-requires c κs =
-    let st = stand (c .before .before .before) in
+    let st = standing-judged _ _ _ _ _ (c .before .before .before .before .ground .ensures) (zero (c .before .before .before)) in
     (st .chips .nand-size, omega (arith, st .chips .least), st .serials .first, omega (arith, st .serials .rising, c .before .if2 .left))
 
 same-length : tie.Need-same-length
