@@ -20,9 +20,9 @@ use Rattle.skiplist.specs.declared.Pointer.{Pointer}
 use Rattle.skiplist.specs.Skip.{pointer, isNone}
 use Rattle.skiplist.specs.PointerBytes.{pointersBytes, pointersAt}
 use Rattle.skiplist.proofs.Pointers.{length-pointers}
-use Rattle.segment.specs.Header.{formBytes}
-use Rattle.segment.proofs.Fields.{putAll, fields-put, front-put}
-use Rattle.segment.proofs.HeaderBytes.{serial-most}
+use Rattle.header.specs.Header.{formBytes}
+use Rattle.header.proofs.Fields.{putAll, fields-put, front-put}
+use Rattle.header.proofs.HeaderBytes.{serial-most}
 use Rattle.store.specs.declared.State.{State}
 use Rattle.store.specs.World.{world}
 use Rattle.carry.specs.Carried.{other, pointerInto, pointersInto, headerInto, slotInto, closedInto, openInto, nextInto, firstTime}

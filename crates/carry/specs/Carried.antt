@@ -13,7 +13,7 @@ use Rattle.form.specs.declared.Form.the-variants.{Old, New}
 use Rattle.skiplist.specs.declared.Pointer.{Pointer}
 use Rattle.skiplist.specs.Skip.{pointer, isNone}
 use Rattle.skiplist.specs.PointerBytes.{pointersBytes, pointersAt}
-use Rattle.segment.specs.Header.{formBytes, pointersFrom, tailWidth}
+use Rattle.header.specs.Header.{formBytes, pointersFrom, tailWidth}
 use Rattle.store.specs.declared.State.{State}
 use Rattle.store.specs.World.{World, liveTime}
 

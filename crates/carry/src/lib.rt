@@ -12,7 +12,7 @@ ghost use lib.ListN.{length};
 ghost use Rattle.codec.specs.Area.{part, splice};
 ghost use Rattle.flash.specs.Chip.{slotOf, pageWidth, slotWidth};
 ghost use Rattle.form.specs.declared.Form.the-variants.{Old, New};
-ghost use Rattle.segment.specs.Header.{formBytes};
+ghost use Rattle.header.specs.Header.{formBytes};
 ghost use Rattle.store.specs.World.{world};
 ghost use Rattle.carry.specs.Carried as Carried;
 ghost use Rattle.carry.specs.Carried.{pointerInto, pointersInto, headerInto, slotInto, closedInto, openInto, nextInto, stateInto, firstTime};
@@ -88,7 +88,7 @@ fn put_kept(d: &mut [u8], h: &[u8], form: Form)
         ≡ splice (now (d .entry)) 0 (part (now (h .entry)) 0 10 ++ (formBytes form ++ part (now (h .entry)) 16 24)) ⌝ }
 {
     codec::copy(d, 0, &h[0..10]);
-    segment::put_form(d, form);
+    header::put_form(d, form);
     codec::copy(d, 16, &h[16..40]);
 }
 
@@ -100,7 +100,7 @@ fn carried_header(h: &[u8], form: Form, n: u32) -> [u8; PAGE_BYTES]
     let from = other(form);
     let p = skiplist::pointers_at(h, POINTERS_AT, from);
     let q = carried_pointers(p, form, n);
-    let mut d = segment::zeros();
+    let mut d = header::zeros();
     put_kept(&mut d, h, form);
     skiplist::put_pointers(&mut d, POINTERS_AT, q, form);
     d

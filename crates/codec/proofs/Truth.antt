@@ -1,6 +1,6 @@
 -- What a test made of two tests says of each, and the other way round. By cases; every crate cites these.
 use mathlib.Core.Path.{_≡_, refl}
-use mathlib.Core.Bool.{Bool, true, false, _&&_, _||_}
+use mathlib.Core.Bool.{Bool, true, false, not, _&&_, _||_}
 use mathlib.Core.Logic.{_⊎_, inl, inr}
 
 -- ---- both of two
@@ -58,3 +58,9 @@ or-other false b f e = e
 pub or-cases : (a b : Bool) → (a || b) ≡ true → (a ≡ true) ⊎ (b ≡ true)
 or-cases true b e = inl refl
 or-cases false b e = inr e
+
+-- ---- not
+
+pub not-twice : (a : Bool) → a ≡ not (not a)
+not-twice true = refl
+not-twice false = refl

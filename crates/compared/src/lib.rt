@@ -5,6 +5,7 @@ use dice::calls;
 use dice::calls::Call;
 use plain_list::PlainLog;
 use plain_list::Query;
+use plate::PLATES;
 use store::Answer;
 use store::State;
 
@@ -14,7 +15,6 @@ const CODE_AT: usize = 8;
 
 const NOTE_AT: usize = 12;
 
-const PLATES: usize = 21;
 // Eight serials of 320 lifts.
 const AREA_BYTES: usize = 81920;
 

@@ -10,8 +10,8 @@ use borrow.Author.Tests.{leb-true, le-ltb, eq-eqb, ne-eqb, not-false}
 use Rattle.codec.proofs.Truth.{and-left, and-right, or-left, or-right}
 use Rattle.form.specs.declared.Form.{Form}
 use Rattle.form.specs.declared.Form.the-variants.{Old, New}
-use Rattle.segment.specs.Header.{headerGood, headerIn}
-use Rattle.segment.proofs.HeaderFacts.{header-facts}
+use Rattle.header.specs.Header.{headerGood, headerIn}
+use Rattle.header.proofs.HeaderFacts.{header-facts}
 use Rattle.bounds.specs.Bounds.{serialsOk, countsOk, timesOk, spanOk, loadsOk}
 use Rattle.bounds.specs.Grounds.{ground, nandBad, norBad, formatGround}
 use Rattle.bounds.proofs.Within as Within

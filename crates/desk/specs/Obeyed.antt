@@ -7,7 +7,7 @@ use lib.Dec.{eqb, ltb}
 use lib.ListN.{length, take, replicate}
 use Rattle.lines.specs.declared.Line.{Line}
 use Rattle.lines.specs.declared.Line.the-variants.{Append, Close, Drop, Search, Tally, Page, Other}
-use Rattle.lines.specs.Forms.{lineOf}
+use Rattle.lines.specs.Forms.{lineOf, lineFeed}
 use Rattle.store.specs.World.{World, world}
 use Rattle.store.specs.Calls.{appendOutcome, closeOutcome, dropOutcome}
 use Rattle.desk.specs.declared.Reader.{Reader}
@@ -33,10 +33,10 @@ desk nand nor s = record { world = world nand nor (s .state); line = take (s .le
 unfoldable pub kept : List ℕ → ℕ → List ℕ
 kept l b = cond (ltb (length l) 48) (l ++ (b ∷ [])) l
 
--- a byte of the input: a line feed (10) ends the line
+-- a byte of the input: a line feed ends the line
 unfoldable pub typed : Desk → ℕ → Desk
 typed d b =
-    cond (eqb b 10)
+    cond (eqb b lineFeed)
     (record { world = obeyed (d .world) (lineOf (d .line)); line = [] })
     (record { world = d .world; line = kept (d .line) b })
 

@@ -1,5 +1,6 @@
 // What a line of `slotlist` does (document 01, "Program"), with nothing read and nothing printed: the calls of a store of two slots,
 // and the line so far.
+use lift::NOTE_BYTES;
 use lines::Line;
 use page_line::SLOTS;
 use search::Found;
@@ -13,17 +14,10 @@ ghost use Rattle.lift.specs.Record.{recordWidth};
 ghost use Rattle.store.specs.World.{world};
 ghost use Rattle.desk.specs.Obeyed.{obeyed, kept};
 
-pub const NAND_BYTES: usize = 32768;
-
-pub const NOR_BYTES: usize = 6144;
+pub const NAND_BYTES: usize = 2 * flash::SLOT_BYTES;
 // "320 result rows"
-pub const RESULT_BYTES: usize = 10240;
+pub const RESULT_BYTES: usize = 320 * lift::RECORD_BYTES;
 
-pub const ROW_BYTES: usize = 32;
-
-const NOTE_BYTES: usize = 20;
-
-pub const LINE_FEED: u8 = 10;
 // The longest form has 47 bytes; one byte more is of no form, and what follows is not kept.
 const LINE_BYTES: usize = 48;
 
@@ -86,7 +80,7 @@ pub fn search(
 pub fn rows(area: &[u8], count: u64) -> usize
     ensures { λ r. ⌜ r * recordWidth ≤ length (now (area .entry)) ⌝ }
 {
-    let whole = area.len() / ROW_BYTES;
+    let whole = area.len() / lift::RECORD_BYTES;
     if (count as usize) < whole {
         return count as usize;
     }

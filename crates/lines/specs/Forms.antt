@@ -11,6 +11,10 @@ use Rattle.lines.specs.declared.Line.{Line}
 use Rattle.lines.specs.declared.Line.the-variants.{Append, Close, Drop, Search, Tally, Page, Other}
 use Rattle.lines.specs.Columns.{fieldIn, valueOf, isTime, isLoad, loadIn}
 
+-- the byte that ends a line
+abbrev pub lineFeed : ℕ
+lineFeed = 10
+
 -- the field of a time and that of a load, from a column on
 abbrev pub timeField : List ℕ → ℕ → Field
 timeField s at = fieldIn (part s at 15)

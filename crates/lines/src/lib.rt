@@ -1,6 +1,7 @@
 // The lines of `slotlist` (document 01, "Program"): a line, read by its form.
 ghost use mathlib.Core.Path.{_≡_};
 ghost use Prim.Native.Nat.{_+_, _^_, _≤_, _<_};
+ghost use lib.Dec.{eqb};
 ghost use lib.IntN.{subℕ};
 ghost use lib.ListN.{length};
 ghost use Rattle.codec.specs.Area.{part};
@@ -15,6 +16,8 @@ pub const SPACE: u8 = 32;
 pub const ZERO: u8 = 48;
 
 const NINE: u8 = 57;
+// The byte that ends a line.
+pub const LINE_FEED: u8 = 10;
 // "times in 15 columns and loads in 8"
 pub const TIME_COLUMNS: usize = 15;
 
@@ -257,4 +260,10 @@ pub fn parse(s: &[u8]) -> Line
         return window_line(s, true);
     }
     Line::Other
+}
+
+pub fn ends_line(b: u8) -> bool
+    ensures { λ r. ⌜ r ≡ eqb b Forms.lineFeed ⌝ }
+{
+    b == LINE_FEED
 }

@@ -1,4 +1,5 @@
 // What a line P prints (document 02, W-201): letter and number and, where that is 0, the service page of a tally of the program's store.
+use lines::LINE_FEED;
 use store::State;
 ghost use Prim.Native.Nat.{_≤_};
 ghost use lib.ListN.{length};
@@ -12,7 +13,6 @@ pub const SLOTS: u64 = 2;
 
 const LETTER_P: u8 = 80;
 
-const LINE_FEED: u8 = 10;
 // Letter and number, and a line feed.
 const HEAD_BYTES: usize = 5;
 // These, and the 23 lines of a page, each with its line feed.

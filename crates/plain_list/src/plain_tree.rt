@@ -2,8 +2,7 @@
 // ranges are kept raised, so that no fitted value falls below zero and halves round down by plain division.
 use crate::rows;
 use crate::sheet;
-ghost use mathlib.Core.Path.{_≡_};
-ghost use Prim.Native.Nat.{_+_, _-_, _*_, _/_, _^_, _≤_, _<_};
+ghost use Prim.Native.Nat.{_+_, _-_, _*_, _^_, _≤_, _<_};
 
 // "numbers run 0–35"; six numbers for each.
 const BUCKETS: u32 = 36;

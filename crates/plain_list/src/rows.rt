@@ -2,7 +2,7 @@
 use crate::plain_tree;
 use crate::sheet;
 ghost use mathlib.Core.Path.{_≡_};
-ghost use Prim.Native.Nat.{_+_, _-_, _*_, _/_, _^_, _≤_, _<_};
+ghost use Prim.Native.Nat.{_+_, _-_, _*_, _^_, _≤_, _<_};
 
 const NUMBERS: usize = 3;
 

@@ -1,7 +1,6 @@
 // The sheet: a lent slice of numbers. A number past its end reads as 0 and is not written, and small sums stop at the largest number,
 // so that no caller owes a bound; a sheet that is too small shows as a difference.
-ghost use mathlib.Core.Path.{_≡_};
-ghost use Prim.Native.Nat.{_-_, _^_, _≤_, _<_};
+ghost use Prim.Native.Nat.{_-_, _^_, _<_};
 
 pub fn get(sheet: &[u64], at: usize) -> u64 {
     if at < sheet.len() {

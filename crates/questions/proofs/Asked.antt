@@ -16,9 +16,9 @@ use Rattle.form.specs.declared.Form.{Form}
 use Rattle.form.specs.declared.Form.the-variants.{New}
 use Rattle.skiplist.specs.declared.Pointer.{Pointer}
 use Rattle.skiplist.specs.Skip.{serialsFrom, inSlots}
-use Rattle.walk.specs.declared.Log.{Log}
-use Rattle.walk.specs.Inner.Sound.{InSlots, LogSound}
-use Rattle.search.specs.Found.{foundRows}
+use Rattle.visit.specs.declared.Log.{Log}
+use Rattle.visit.specs.Inner.Sound.{InSlots, LogSound}
+use Rattle.found.specs.Found.{foundRows}
 use Rattle.search.specs.Answers.{SearchAnswer, searchAnswer}
 use Rattle.tally.specs.Answers.{TallyAnswer, tallyAnswer}
 use Rattle.bounds.specs.Grounds.{ground, nandBad, norBad, queryGround}

@@ -15,9 +15,9 @@ use Rattle.lift.specs.Limits.{timeOk}
 use Rattle.lift.specs.Record.{codeAt}
 use Rattle.plate.specs.Plate.{noCounts, countsOf, total}
 use Rattle.plate.proofs.Counts.{length-counts, total-none, counts-total}
-use Rattle.search.specs.Found.{foundRows, mostFound}
+use Rattle.found.specs.Found.{foundRows, mostFound}
 use Rattle.tally.specs.Answers.{TallyAnswer, tallyAnswer, rowCodes}
-use Rattle.search.proofs.Most.{found-most}
+use Rattle.found.proofs.Most.{found-most}
 use Rattle.bounds.specs.Grounds.{nandBad, norBad, queryGround}
 use Rattle.bounds.proofs.Within as Within
 use Rattle.store.specs.Bounds.{withinBounds}

@@ -7,9 +7,9 @@ use lib.Dec.{eqb}
 use lib.IntN.{ℤ}
 use Rattle.lift.specs.Limits.{loadLeast, loadMost, stored}
 use Rattle.plate.specs.Plate.{noCounts}
-use Rattle.walk.specs.declared.Log.{Log}
-use Rattle.walk.specs.declared.Query.{Query}
-use Rattle.search.specs.Found.{foundRows}
+use Rattle.visit.specs.declared.Log.{Log}
+use Rattle.visit.specs.declared.Query.{Query}
+use Rattle.found.specs.Found.{foundRows}
 use Rattle.search.specs.Answers.{SearchAnswer, searchAnswer}
 use Rattle.tally.specs.Answers.{TallyAnswer, tallyAnswer}
 use Rattle.bounds.specs.Grounds.{queryGround}

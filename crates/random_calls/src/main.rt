@@ -1,15 +1,14 @@
 // Long random lists of calls on the store and on a plain list (document 01, "a plain in-memory list over long random calls"): number,
 // rows and counts of every call are compared, and the serials, count, buckets and next time after it. A line for each S and kind of
 // loads; the last column, differences, is to be 0.
-mod judge;
-mod print;
-mod sums;
-
+use call_counts::judge;
+use call_counts::print;
+use call_counts::sums;
+use call_counts::sums::Sums;
 use compared::Done;
 use compared::Pair;
 use dice::calls::Call;
 use plain_list::PlainLog;
-use sums::Sums;
 
 const NAND_BYTES: usize = 131072;
 

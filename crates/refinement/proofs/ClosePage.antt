@@ -19,9 +19,9 @@ use Rattle.bloom.specs.Pages.{each, fiveSections, segmentSections, sectionsFrom
 use Rattle.bloom.proofs.Each.{length-each, getD-each}
 use Rattle.bloom.proofs.Pages.{sections-from-segment}
 use Rattle.skiplist.specs.declared.Pointer.{Pointer}
+use Rattle.header.specs.Header.{headerPage}
 use Rattle.segment.specs.Pages.{pageDue, closePage}
 use Rattle.segment.proofs.TreeRun.{treeRun}
-use Rattle.segment.specs.Header.{headerPage}
 use Rattle.segment.proofs.Tests.{due-lifts, due-tree, due-last}
 use Rattle.segment.proofs.Turns.{image-lifts, image-tree, image-bloom, image-header}
 use Rattle.tree.specs.Rules.{bucketsOf}

@@ -14,9 +14,9 @@ use Rattle.flash.specs.Chip.{slotOf, pageOf, slotErased, erasedPage}
 use Rattle.flash.proofs.Pages.{chips-equal, length-slot-erased, page-slot-erased, page-other-slot}
 use Rattle.skiplist.specs.declared.Pointer.{Pointer}
 use Rattle.skiplist.proofs.Nodes.{heads-below, heads-above}
-use Rattle.segment.proofs.HeaderBytes.{level-most}
+use Rattle.header.proofs.HeaderBytes.{level-most}
 use Rattle.skiplist.specs.Skip.{Live, pointing, none, isLive, levelOf, headsAfter, noHeads}
-use Rattle.segment.specs.declared.Header.{Header}
+use Rattle.header.specs.declared.Header.{Header}
 use Rattle.store.specs.World.{liveTime, oldestBy, nextOldest, closedRemains, liveAfter, withoutOldest, dropWorld}
 use Rattle.store.specs.Calls.{readsHeader, dropDamage}
 use Rattle.paper_log.specs.Log.{Lift, openSerial, dropLog}

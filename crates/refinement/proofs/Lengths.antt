@@ -1,7 +1,7 @@
 -- Lengths of the parts of an image. Assumes nothing.
 use mathlib.Core.Path.{_≡_, ap, _∙_}
 use mathlib.Core.List.{List, [], _∷_, _++_, map}
-use Prim.Native.Nat.{ℕ, zero, suc, _+_, _-_, _*_, _/_, _≤_, _<_}
+use Prim.Native.Nat.{ℕ, zero, suc, _-_, _*_, _/_, _≤_, _<_}
 use native.Mathlib.Omega.{arith}
 use lib.ListN.{length, drop, length-append, length-drop, length-map}
 use Rattle.codec.specs.Area.{part, repeated}
@@ -16,7 +16,8 @@ use Rattle.bloom.proofs.Section.{length-sectionOf}
 use Rattle.tree.specs.Rules.{bucketsOf}
 use Rattle.tree.specs.Inner.Loads.{Loads}
 use Rattle.tree.proofs.Written.{length-tree}
-use Rattle.search.proofs.Rows.{Wide, length-rows}
+use Rattle.found.proofs.Wide.{Wide}
+use Rattle.search.proofs.Rows.{length-rows}
 use Rattle.paper_log.specs.Log.{Lift, rowOf, codes}
 use Rattle.refinement.specs.Inner.Segments.{recordsOf, liftArea, liftPage, pageBuffer, bloomBuffer, wholeSections, norOf, treeArea}
 use Rattle.refinement.proofs.Good.{GoodLifts}

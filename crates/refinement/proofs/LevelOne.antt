@@ -18,16 +18,17 @@ use Rattle.lift.specs.Limits.{loadOk}
 use Rattle.bloom.specs.Pages.{sectionCount, segmentSections, bloomPage}
 use Rattle.skiplist.specs.declared.Pointer.{Pointer}
 use Rattle.skiplist.specs.Skip as Skip
-use Rattle.segment.specs.declared.Header.{Header}
-use Rattle.segment.proofs.HeaderRead.{headerOf}
+use Rattle.header.specs.declared.Header.{Header}
+use Rattle.header.proofs.HeaderRead.{headerOf}
 use Rattle.segment.proofs.ReadBack.{pages-first}
+use Rattle.visit.specs.declared.Query.{Query}
+use Rattle.visit.specs.Visit.{closedRows}
 use Rattle.walk.specs.declared.Cursor.{Cursor}
-use Rattle.walk.specs.declared.Query.{Query}
 use Rattle.walk.specs.declared.Step.{Step}
 use Rattle.walk.specs.declared.Step.the-variants.{End, Damage, Pass, Visit}
 use Rattle.walk.specs.Seek.{isLast}
-use Rattle.walk.specs.Visit.{isPassed, cursorAfter, closedOf, advanceOf, closedRows}
-use Rattle.search.specs.Found.{joinRows, rowsFrom}
+use Rattle.walk.specs.Advance.{isPassed, cursorAfter, closedOf, advanceOf}
+use Rattle.found.specs.Found.{joinRows, rowsFrom}
 use Rattle.questions.specs.Queries.{queryOf}
 use Rattle.paper_log.specs.Log.{Lift, rowOf, codes, among, joined}
 use Rattle.refinement.specs.Inner.Segments as S

@@ -14,7 +14,7 @@ use Rattle.bloom.specs.Bloom.{sectionOf, noted, notedAll, emptySection}
 use Rattle.bloom.specs.Pages.{each}
 use Rattle.bloom.proofs.Each.{each-same}
 use Rattle.bloom.proofs.Section.{sectionOf-snoc}
-use Rattle.segment.proofs.Fields.{front-put}
+use Rattle.header.proofs.Fields.{front-put}
 use Rattle.search.specs.Answers.{rowBytes}
 use Rattle.search.proofs.Rows.{rows-append}
 use Rattle.paper_log.specs.Log.{Lift, rowOf}

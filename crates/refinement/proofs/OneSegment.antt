@@ -24,9 +24,9 @@ use Rattle.tree.proofs.Built.{buckets-of}
 use Rattle.tree.proofs.Found.{find-elem}
 use Rattle.tree.proofs.Swept.{sweep-built}
 use Rattle.tree.proofs.Written.{tree-of-nor}
-use Rattle.walk.specs.declared.Closed.{Closed}
-use Rattle.walk.specs.declared.Log.{Log}
-use Rattle.walk.specs.Visit.{timely, timed, matchesOf, rowsAt, closedMatches, closedRows, openMatches, openRows}
+use Rattle.visit.specs.declared.Closed.{Closed}
+use Rattle.visit.specs.declared.Log.{Log}
+use Rattle.visit.specs.Visit.{timely, timed, matchesOf, rowsAt, closedMatches, closedRows, openMatches, openRows}
 use Rattle.questions.specs.Queries.{queryOf}
 use Rattle.paper_log.specs.Log.{Lift, rowOf, codes, wanted, among}
 use Rattle.refinement.specs.Inner.Segments.{liftArea, pageBuffer, treeArea, bucketCount, norOf}

@@ -18,10 +18,11 @@ use Rattle.bloom.proofs.Pages as P
 use Rattle.skiplist.specs.declared.Pointer.{Pointer}
 use Rattle.skiplist.specs.Skip.{pointing, levelOf, headsAfter, noHeads}
 use Rattle.skiplist.proofs.Nodes.{length-heads}
-use Rattle.segment.proofs.HeaderBytes.{level-most, length-header}
+use Rattle.header.proofs.HeaderBytes.{level-most, length-header}
 use Rattle.tree.specs.Rules.{bucketsOf}
 use Rattle.tree.proofs.Written.{length-tree}
-use Rattle.search.proofs.Rows.{Wide, length-rows, row-at}
+use Rattle.found.proofs.Wide.{Wide}
+use Rattle.search.proofs.Rows.{length-rows, row-at}
 use Rattle.paper_log.specs.Log.{Lift, codes}
 use Rattle.refinement.specs.Inner.Segments.{liftPage, treeArea, closingOf, closedPage, openPage, headsFrom, startTime}
 use Rattle.refinement.specs.Inner.Image.{History, oldestHeads, pageFrom, pageImage, nandImage}

@@ -21,8 +21,9 @@ use Rattle.bloom.specs.Pages.{sectionCount, segmentSections, bloomPage, section
 use Rattle.bloom.proofs.Pages.{bloom-never-misses-in-pages}
 use Rattle.tree.specs.Search.{within}
 use Rattle.tree.proofs.Search.{within-sides}
-use Rattle.segment.specs.declared.Header.{Header}
-use Rattle.walk.specs.Visit.{timely, isPassed}
+use Rattle.header.specs.declared.Header.{Header}
+use Rattle.visit.specs.Visit.{timely}
+use Rattle.walk.specs.Advance.{isPassed}
 use Rattle.questions.specs.Queries.{queryOf}
 use Rattle.paper_log.specs.Log.{Lift, codes, wanted, among}
 use Rattle.refinement.specs.Inner.Segments as S

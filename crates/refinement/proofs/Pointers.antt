@@ -16,7 +16,7 @@ use Rattle.flash.specs.Chip.{slotOf}
 use Rattle.skiplist.specs.declared.Pointer.{Pointer}
 use Rattle.skiplist.specs.Skip.{pointing, none, ageOf, isLive, levelOf, nodeOf, headsAfter}
 use Rattle.skiplist.proofs.Nodes.{length-node, node-below, node-above, heads-below, heads-above}
-use Rattle.segment.proofs.HeaderBytes.{level-most}
+use Rattle.header.proofs.HeaderBytes.{level-most}
 use Rattle.store.specs.World.{liveTime, leastBy}
 use Rattle.paper_log.specs.Log.{Lift}
 use Rattle.refinement.specs.Inner.Segments as S

@@ -22,7 +22,7 @@ use Rattle.bounds.specs.Lifts.{pushed, lowWith, highWith}
 use Rattle.lift.specs.Limits.{stored}
 use Rattle.bloom.specs.Bloom.{noted, emptySection}
 use Rattle.bloom.proofs.Section.{length-noted}
-use Rattle.segment.proofs.Fields.{front-put}
+use Rattle.header.proofs.Fields.{front-put}
 use Rattle.tree.specs.Rules.{Bucket, treeOf}
 use Rattle.tree.specs.Plan.{Plan}
 use Rattle.tree.specs.Writes.{writesOf, allWritten, bucketsAfter}

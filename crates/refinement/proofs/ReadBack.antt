@@ -11,8 +11,8 @@ use Rattle.flash.specs.Chip.{slotOf, pageOf, pagesOf}
 use Rattle.lift.specs.Limits.{loadOf}
 use Rattle.lift.proofs.Codes.{within-limits}
 use Rattle.bloom.specs.Pages.{each}
-use Rattle.segment.specs.declared.Header.{Header}
-use Rattle.segment.specs.Header.{headerIn}
+use Rattle.header.specs.declared.Header.{Header}
+use Rattle.header.specs.Header.{headerIn}
 use Rattle.paper_log.specs.Log.{Lift, openSerial}
 use Rattle.refinement.specs.Inner.Segments as S
 use Rattle.refinement.specs.Inner.Image.{History, nandImage, stateImage, image}

@@ -20,10 +20,10 @@ use Rattle.lift.proofs.Codes.{within-limits, stored-le}
 use Rattle.skiplist.specs.declared.Pointer.{Pointer}
 use Rattle.skiplist.specs.Skip.{pointing, none, isNone, levelOf, headsAfter, noHeads}
 use Rattle.skiplist.proofs.Nodes.{heads-below, heads-above}
-use Rattle.segment.proofs.HeaderBytes.{level-most}
-use Rattle.segment.specs.Header.{pointerGood, pointersGood, headerIn}
-use Rattle.segment.proofs.HeaderRead.{headerOf}
-use Rattle.segment.proofs.HeaderSound.{Sound, header-decoded}
+use Rattle.header.proofs.HeaderBytes.{level-most}
+use Rattle.header.specs.Header.{pointerGood, pointersGood, headerIn}
+use Rattle.header.proofs.HeaderRead.{headerOf}
+use Rattle.header.proofs.HeaderSound.{Sound, header-decoded}
 use Rattle.tree.proofs.Built.{buckets-of, counted}
 use Rattle.paper_log.specs.Log.{Lift, codes}
 use Rattle.refinement.specs.Inner.Segments as S

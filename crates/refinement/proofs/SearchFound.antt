@@ -13,13 +13,13 @@ use lib.ListN.{length, getD, length-append}
 use Rattle.codec.proofs.Truth.{and-parts}
 use Rattle.lift.specs.Limits.{loadOk}
 use Rattle.skiplist.specs.Skip as Skip
+use Rattle.visit.specs.declared.Log.{Log}
+use Rattle.visit.specs.declared.Query.{Query}
 use Rattle.walk.specs.declared.Cursor.{Cursor}
-use Rattle.walk.specs.declared.Log.{Log}
-use Rattle.walk.specs.declared.Query.{Query}
 use Rattle.walk.specs.declared.SkipWalk.{SkipWalk}
 use Rattle.walk.specs.Seek.{isLast, skipWalk, reachedBy, startOf}
-use Rattle.walk.specs.Visit.{advanceOf}
-use Rattle.search.specs.Found.{rowsFrom, closedFound, foundRows}
+use Rattle.walk.specs.Advance.{advanceOf}
+use Rattle.found.specs.Found.{rowsFrom, closedFound, foundRows}
 use Rattle.store.specs.World.{livenessOf}
 use Rattle.questions.specs.Queries.{logOf, queryOf}
 use Rattle.paper_log.specs.Log.{Lift, openSerial, rowOf, among, joined, found}

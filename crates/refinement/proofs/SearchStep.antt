@@ -14,8 +14,8 @@ use Rattle.codec.specs.Area.{splice}
 use Rattle.codec.proofs.Truth.{and-parts}
 use Rattle.bounds.specs.Grounds.{queryGround}
 use Rattle.lift.specs.Limits.{timeOk, loadOk}
+use Rattle.found.specs.Found.{foundRows}
 use Rattle.search.specs.Answers.{searchAnswer, rowBytes}
-use Rattle.search.specs.Found.{foundRows}
 use Rattle.store.specs.World.{livenessOf}
 use Rattle.questions.specs.Queries.{logOf, queryOf, searchGround, searchOutcome}
 use Rattle.paper_log.specs.Log.{found, rowOf}

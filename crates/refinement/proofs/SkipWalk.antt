@@ -13,8 +13,8 @@ use borrow.Author.Tests.{ltb-true}
 use Rattle.codec.proofs.Truth.{and-parts}
 use Rattle.skiplist.specs.declared.Pointer.{Pointer}
 use Rattle.skiplist.specs.Skip.{none, isLive}
-use Rattle.segment.specs.declared.Header.{Header}
-use Rattle.segment.proofs.HeaderRead.{headerOf}
+use Rattle.header.specs.declared.Header.{Header}
+use Rattle.header.proofs.HeaderRead.{headerOf}
 use Rattle.walk.specs.declared.SkipWalk.{SkipWalk}
 use Rattle.walk.specs.Seek.{headerAt, hopAt, hop, hops, skipWalk}
 use Rattle.questions.specs.Queries.{logOf}

@@ -16,7 +16,7 @@ use Rattle.lift.proofs.Codes.{within-limits}
 use Rattle.lift.proofs.Records.{length-record, record-read}
 use Rattle.plate.specs.Plate.{noCounts, countsOf}
 use Rattle.tally.specs.Answers.{TallyAnswer, tallyAnswer, rowCodes}
-use Rattle.search.specs.Found.{foundRows}
+use Rattle.found.specs.Found.{foundRows}
 use Rattle.bounds.specs.Grounds.{queryGround}
 use Rattle.store.specs.World.{livenessOf}
 use Rattle.questions.specs.Queries.{logOf, queryOf, tallyOutcome}

@@ -14,7 +14,7 @@ use Rattle.form.specs.Forms.{byteTen}
 use Rattle.skiplist.specs.declared.Pointer.{Pointer}
 use Rattle.skiplist.specs.Skip.{serialsFrom, isNone, isLive}
 use Rattle.skiplist.specs.PointerBytes.{pointersAt}
-use Rattle.segment.specs.Header.{headerGood, pointersFrom}
+use Rattle.header.specs.Header.{headerGood, pointersFrom}
 use Rattle.store.specs.World.{World}
 use Rattle.carry.specs.Carried.{headerOf}
 

@@ -34,7 +34,7 @@ fn is_damaged(h: &[u8], form: Form, slots: u64, before: u32, n: u32) -> bool
     ensures { λ r. ⌜ r ≡ Retained.isDamaged form slots before n (now (h .entry)) ⌝ }
 {
     let own = is_form(h, form);
-    let read = segment::header_in(h, form, slots, before);
+    let read = header::header_in(h, form, slots, before);
     let good = read.good;
     let placed = read.serial == n;
     !(own & (good & placed))

@@ -11,7 +11,7 @@ use Rattle.form.specs.declared.Form.{Form}
 use Rattle.skiplist.specs.declared.Pointer.{Pointer}
 use Rattle.skiplist.specs.Skip.{pointing, none, levelOf, headsAfter}
 use Rattle.skiplist.proofs.Nodes.{heads-below, heads-above}
-use Rattle.segment.proofs.HeaderBytes.{level-most}
+use Rattle.header.proofs.HeaderBytes.{level-most}
 use Rattle.refinement.specs.Inner.Segments as S
 use Rattle.refinement.proofs.PageLengths.{four-after}
 

@@ -18,7 +18,7 @@ use Rattle.skiplist.specs.declared.Pointer.{Pointer}
 use Rattle.skiplist.specs.Skip.{none, isNone, isLive, serialsFrom, levelOf, nodeOf, noHeads}
 use Rattle.skiplist.specs.PointerBytes.{pointersAt}
 use Rattle.skiplist.proofs.Nodes.{length-node}
-use Rattle.segment.proofs.HeaderBytes.{level-most}
+use Rattle.header.proofs.HeaderBytes.{level-most}
 use Rattle.paper_log.specs.Log.{Lift, openSerial, retained}
 use Rattle.refinement.specs.Inner.Segments as S
 use Rattle.refinement.specs.Inner.Image.{History, oldestHeads, openHeads, nandImage, firstStart, stateImage, image}

@@ -16,11 +16,11 @@ use Rattle.form.specs.declared.Form.the-variants.{Old, New}
 use Rattle.form.specs.Forms.{byteTen}
 use Rattle.skiplist.specs.Skip.{levelOf, nodeOf}
 use Rattle.skiplist.specs.PointerBytes.{pointersAt}
-use Rattle.segment.specs.declared.Closing.{Closing}
-use Rattle.segment.specs.declared.Header.{Header}
-use Rattle.segment.specs.Header.{headerGood, headerIn}
-use Rattle.segment.proofs.HeaderRead.{header-numbers}
-use Rattle.segment.proofs.HeaderSound.{sound-numbers}
+use Rattle.header.specs.declared.Closing.{Closing}
+use Rattle.header.specs.declared.Header.{Header}
+use Rattle.header.specs.Header.{headerGood, headerIn}
+use Rattle.header.proofs.HeaderRead.{header-numbers}
+use Rattle.header.proofs.HeaderSound.{sound-numbers}
 use Rattle.paper_log.specs.Log.{Lift, openSerial}
 use Rattle.refinement.specs.Inner.Segments as S
 use Rattle.refinement.specs.Inner.Image.{History, oldestHeads, nandImage}

@@ -10,8 +10,8 @@ use borrow.Author.Tests.{ne-eqb, lt-ltb, le-ltb}
 use Rattle.codec.specs.Number.{numberAt}
 use Rattle.flash.specs.Chip.{slotOf, pageOf}
 use Rattle.form.specs.declared.Form.{Form}
-use Rattle.segment.proofs.HeaderRead.{header-numbers}
-use Rattle.segment.proofs.HeaderSound.{sound-numbers}
+use Rattle.header.proofs.HeaderRead.{header-numbers}
+use Rattle.header.proofs.HeaderSound.{sound-numbers}
 use Rattle.paper_log.specs.Log.{Lift, openSerial, joined}
 use Rattle.refinement.specs.Inner.Segments as S
 use Rattle.refinement.specs.Inner.Image.{History, nandImage, firstStart, stateImage, image}

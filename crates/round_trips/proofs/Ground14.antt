@@ -15,7 +15,7 @@ use Rattle.form.specs.declared.Form.the-variants.{Old, New}
 use Rattle.skiplist.specs.declared.Pointer.{Pointer}
 use Rattle.skiplist.specs.Skip.{pointing, none, isNone, isLive, serialsFrom, levelOf, nodeOf}
 use Rattle.skiplist.proofs.Nodes.{node-below, node-above, heads-above}
-use Rattle.segment.proofs.HeaderBytes.{level-most}
+use Rattle.header.proofs.HeaderBytes.{level-most}
 use Rattle.paper_log.specs.Log.{Lift}
 use Rattle.refinement.specs.Inner.Segments as S
 use Rattle.refinement.specs.Inner.Image.{History, oldestHeads, openHeads, liveOf}

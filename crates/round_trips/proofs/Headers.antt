@@ -18,10 +18,10 @@ use Rattle.skiplist.specs.declared.Pointer.{Pointer}
 use Rattle.skiplist.specs.Skip.{none, levelOf, nodeOf}
 use Rattle.skiplist.specs.PointerBytes.{pointersBytes, pointersAt}
 use Rattle.skiplist.proofs.Nodes.{length-node, node-below, node-above}
-use Rattle.segment.specs.declared.Closing.{Closing}
-use Rattle.segment.specs.Header.{formBytes, countBytes, spanBytes, headerPage}
-use Rattle.segment.proofs.HeaderBytes.{level-most, length-span}
-use Rattle.segment.proofs.HeaderRead.{NumbersFit, HeadsFit, header-node}
+use Rattle.header.specs.declared.Closing.{Closing}
+use Rattle.header.specs.Header.{formBytes, countBytes, spanBytes, headerPage}
+use Rattle.header.proofs.HeaderBytes.{level-most, length-span}
+use Rattle.header.proofs.HeaderRead.{NumbersFit, HeadsFit, header-node}
 use Rattle.carry.specs.Carried.{other, pointerInto, pointersInto, headerInto}
 use Rattle.carry.proofs.Carrying.{length-from, length-form}
 

@@ -17,7 +17,7 @@ use Rattle.skiplist.specs.declared.Pointer.{Pointer}
 use Rattle.skiplist.specs.Skip as Skip
 use Rattle.skiplist.specs.Skip.{pointing, serialsFrom, isLive, isNone, levelOf, headsAfter, noHeads}
 use Rattle.skiplist.proofs.Nodes.{heads-below}
-use Rattle.segment.proofs.HeaderBytes.{level-most}
+use Rattle.header.proofs.HeaderBytes.{level-most}
 use Rattle.paper_log.specs.Log.{Lift, openSerial}
 use Rattle.refinement.specs.Inner.Segments as S
 use Rattle.refinement.specs.Inner.Image.{History, oldestHeads, firstStart, liveOf}

@@ -22,9 +22,9 @@ use Rattle.skiplist.specs.PointerBytes.{pointersBytes, pointersAt}
 use Rattle.skiplist.proofs.Pointers.{length-pointers}
 use Rattle.codec.proofs.Numbers.{length-bytes}
 use Rattle.form.specs.Forms.{pointerWidth}
-use Rattle.segment.specs.Header.{headerPage}
-use Rattle.segment.proofs.HeaderBytes.{serial-most}
-use Rattle.segment.proofs.HeaderSound.{sound-numbers, sound-heads}
+use Rattle.header.specs.Header.{headerPage}
+use Rattle.header.proofs.HeaderBytes.{serial-most}
+use Rattle.header.proofs.HeaderSound.{sound-numbers, sound-heads}
 use Rattle.paper_log.specs.Log.{Lift, openSerial}
 use Rattle.refinement.specs.Inner.Segments as S
 use Rattle.refinement.specs.Inner.Image.{History, oldestHeads, pageFrom, nandImage, stateImage, image}

@@ -5,7 +5,7 @@ use mathlib.Core.Bool.{true, false}
 use mathlib.Core.List.{List, [], _∷_, map}
 use Prim.Native.Nat.{ℕ, _≤_, _<_}
 use lib.ListN.{getD}
-use Rattle.segment.specs.Header.{pointersFrom}
+use Rattle.header.specs.Header.{pointersFrom}
 use Rattle.form.specs.declared.Form.the-variants.{Old, New}
 use Rattle.skiplist.specs.declared.Pointer.{Pointer}
 use Rattle.skiplist.specs.Skip.{none, isNone, isLive, serialsFrom, levels}

@@ -7,8 +7,9 @@ use native.Mathlib.Omega.{arith}
 use lib.ListN.{length, take, drop, length-append, take-append-drop}
 use lib.Seq.{length-take-le, take-append-le, take-take, drop-at}
 use Rattle.codec.specs.Area.{splice}
+use Rattle.found.proofs.Wide.{Wide}
 use Rattle.search.specs.Answers.{rowBytes}
-use Rattle.search.proofs.Rows.{Wide, length-rows, rows-append}
+use Rattle.search.proofs.Rows.{length-rows, rows-append}
 
 -- a splice right before another
 pub splice-before : (s : List ℕ) (at : ℕ) (p : List ℕ) (to : ℕ) (q : List ℕ) → at + length p ≡ to → to ≤ length s

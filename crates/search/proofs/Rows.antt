@@ -1,26 +1,14 @@
 -- Rows of one width side by side: their length, row k, and rows behind rows. Assumes nothing.
 use mathlib.Core.Path.{_≡_, refl, sym, ap, _∙_}
-use mathlib.Core.List.{List, [], _∷_, _++_, append-assoc, map}
+use mathlib.Core.List.{List, [], _∷_, _++_, append-assoc}
 use Prim.Native.Nat.{ℕ, zero, suc, _+_, _*_, _≤_, _<_}
 use native.Mathlib.Nat.{mul-le-mul-right}
 use native.Mathlib.Omega.{arith}
 use lib.ListN.{length, getD, length-append}
 use Rattle.codec.specs.Area.{part}
 use Rattle.codec.proofs.Areas.{part-append-left, part-append-right, part-all}
+use Rattle.found.proofs.Wide.{Wide}
 use Rattle.search.specs.Answers.{rowBytes}
-
--- every row has w bytes
-abbrev pub Wide : ℕ → List (List ℕ) → Type 0
-Wide w [] = Unit {0}
-Wide w (r ∷ rows) = (length r ≡ w) × Wide w rows
-
-pub wide-append : (w : ℕ) (a b : List (List ℕ)) → Wide w a → Wide w b → Wide w (a ++ b)
-wide-append w [] b p q = q
-wide-append w (r ∷ a) b p q = (p .0, wide-append w a b (p .1) q)
-
-pub wide-map : {A : Type 0} (w : ℕ) (f : A → List ℕ) (l : List A) → ((a : A) → length (f a) ≡ w) → Wide w (map f l)
-wide-map w f [] h = tt
-wide-map w f (a ∷ l) h = (h a, wide-map w f l h)
 
 pub length-rows : (w : ℕ) (rows : List (List ℕ)) → Wide w rows → length (rowBytes rows) ≡ length rows * w
 unfolding rowBytes

@@ -17,22 +17,26 @@ use Rattle.lift.specs.Rows.{recordIn}
 use Rattle.skiplist.specs.Skip.{Live}
 use Rattle.sweep.specs.declared.Records.{Records}
 use Rattle.sweep.specs.Inner.Swept.{Recorded}
-use Rattle.walk.specs.declared.Closed.{Closed}
+use Rattle.visit.specs.declared.Closed.{Closed}
+use Rattle.visit.specs.declared.Query.{Query}
+use Rattle.visit.specs.Visit.{closedRows}
+use Rattle.visit.proofs.Emptying.{emptied-more, emptied-all, emptied-below}
 use Rattle.walk.specs.declared.Cursor.{Cursor}
-use Rattle.walk.specs.declared.Query.{Query}
 use Rattle.walk.specs.declared.Step.the-variants.{End, Damage, Pass, Visit}
-use Rattle.walk.specs.Visit.{advanceOf, closedRows}
+use Rattle.walk.specs.Advance.{advanceOf}
 use Rattle.walk.specs.Inner.Sound.{Sound}
-use Rattle.walk.proofs.Emptying.{emptied-more, emptied-all, emptied-below}
+use Rattle.found.specs.Found.{joinRows}
+use Rattle.found.specs.Inner.Turns.{rowsAfter, rowsIn}
+use Rattle.found.proofs.Counts.{never}
+use Rattle.found.proofs.Matched.{WideIn, record-size, closed-wide}
+use Rattle.found.proofs.Wide.{Wide}
+use Rattle.found.proofs.Placed.{Placed}
+use Rattle.found.proofs.Segments.{rows-end, rows-damage, pass-facts, rows-pass, visit-facts, rows-visit, rows-wide}
 use Rattle.search.specs.declared.Writing.{Writing}
 use Rattle.search.specs.Answers.{rowBytes}
-use Rattle.search.specs.Found.{joinRows}
-use Rattle.search.specs.Inner.Turns.{rowsAfter, rowsIn, writtenIn, WrittenUpTo, CountIs, writeLeft, WritesOn}
+use Rattle.search.specs.Inner.Turns.{writtenIn, WrittenUpTo, CountIs, writeLeft, WritesOn}
 use Rattle.search.proofs.Backwards.{backwards, splice-none}
-use Rattle.search.proofs.Counts.{never}
-use Rattle.search.proofs.Matched.{WideIn, record-size, closed-wide}
-use Rattle.search.proofs.Rows.{Wide, length-rows}
-use Rattle.search.proofs.Segments.{rows-end, rows-damage, pass-facts, rows-pass, visit-facts, rows-visit, rows-wide}
+use Rattle.search.proofs.Rows.{length-rows}
 
 -- ---- the records of a set
 
@@ -95,6 +99,15 @@ module _ (f : ℕ → List ℕ) (ps : List ℕ) (rows : List (List ℕ)) (are : 
         are = e ∙ ap (λ (r : List (List ℕ)). splice area ((end - n) * 32) (rowBytes r))
             are;
       }
+
+module _ (l tail : List ℕ) (g : Records) (ps : List ℕ) (rows : List (List ℕ)) (p : Placed l tail g ps rows) where
+  pub placed-many : (n : ℕ) → n ≡ length ps → n ≡ length rows
+  placed-many n e = as-many (recordIn l tail (g .first)) ps rows (p .are) n e
+
+  pub placed-written : (n : ℕ) → n ≡ length ps → (area new : List ℕ) (end : ℕ) → length rows ≤ end
+      → new ≡ splice area ((end - n) * 32) (rowBytes (map (recordIn l tail (g .first)) ps))
+      → WrittenUpTo area new rows end (end - n)
+  placed-written n e area new end h is = written-up-to (recordIn l tail (g .first)) ps rows (p .are) n e area new end h is
 
 pub written-none : (area : List ℕ) (end : ℕ) → WrittenUpTo area area [] end end
 unfolding rowBytes

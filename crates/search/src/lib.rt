@@ -1,40 +1,25 @@
-// What a search finds (document 01, "Search"): counted first, then written.
-mod count;
+// The answer of a search (document 01, "Search"): what is found is counted first, then written.
 mod write;
 
 use flash::PAGE_BYTES;
+use found::DAMAGE;
+use visit::Log;
+use visit::Query;
 use walk::Cursor;
-use walk::Log;
-use walk::Query;
 ghost use mathlib.Core.Path.{_≡_};
 ghost use Prim.Native.Nat.{_≤_};
 ghost use Rattle.skiplist.specs.Skip.{serialsFrom};
-ghost use Rattle.walk.specs.Inner.Sound.{LogSound};
-ghost use Rattle.search.specs.Found.{foundRows};
+ghost use Rattle.visit.specs.Inner.Sound.{LogSound};
+ghost use Rattle.found.specs.Found.{foundRows};
 ghost use Rattle.search.specs.Answers.{SearchAnswer, searchAnswer};
 
-// Ground 10: damage is met. Ground 12: the lifts found outnumber the whole rows of the result area.
-pub const DAMAGE: u8 = 10;
-
+// Ground 12: the lifts found outnumber the whole rows of the result area.
 const TOO_SMALL: u8 = 12;
 
 // The number, and how many were found.
 pub struct Found {
     pub number: u8,
     pub count: u64,
-}
-
-// Whether no damage was met, and how many were found.
-struct Counted {
-    good: bool,
-    total: u64,
-}
-
-// A count on its way: done at the last segment or at damage.
-struct Counting {
-    done: bool,
-    c: Cursor,
-    n: Counted,
 }
 
 // Rows on their way: those from `row` on are written.
@@ -59,7 +44,7 @@ pub fn search_in(
         (searchAnswer (now (area .entry)) (foundRows (now (nand .entry)) (now (nor .entry)) page g (serialsFrom (g .oldest)) q)) ⌝ }
 {
     let c = walk::start_of(nand, g, q);
-    let n = count::count_all(nand, nor, &page, g, q, c);
+    let n = found::count_all(nand, nor, &page, g, q, c);
     let good = n.good;
     if !good {
         return Found {

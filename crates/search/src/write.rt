@@ -2,10 +2,10 @@
 use crate::Writing;
 use bitset::Bits;
 use sweep::Records;
-use walk::Closed;
+use visit::Closed;
+use visit::Log;
+use visit::Query;
 use walk::Cursor;
-use walk::Log;
-use walk::Query;
 use walk::Step;
 ghost use mathlib.Core.Path.{_≡_};
 ghost use mathlib.Core.Bool.{false};
@@ -19,10 +19,12 @@ ghost use Rattle.bitset.specs.Inner.Words.{members, Below};
 ghost use Rattle.lift.specs.Rows.{recordIn};
 ghost use Rattle.sweep.specs.Inner.Swept.{Recorded};
 ghost use Rattle.skiplist.specs.Skip.{serialsFrom};
-ghost use Rattle.walk.specs.Visit.{closedRows, openRows};
-ghost use Rattle.walk.specs.Inner.Sound.{Sound, Begun, ClosedSound, LogSound};
+ghost use Rattle.visit.specs.Visit.{closedRows, openRows};
+ghost use Rattle.visit.specs.Inner.Sound.{ClosedSound, LogSound};
+ghost use Rattle.walk.specs.Inner.Sound.{Sound, Begun};
+ghost use Rattle.found.specs.Inner.Turns.{allRows, rowsAfter, rowsIn};
 ghost use Rattle.search.specs.Answers.{rowBytes};
-ghost use Rattle.search.specs.Inner.Turns.{allRows, rowsAfter, rowsIn, writtenIn, WrittenUpTo, CountIs, WritesOn};
+ghost use Rattle.search.specs.Inner.Turns.{writtenIn, WrittenUpTo, CountIs, WritesOn};
 
 // The records of a set's places go to rows from `row` on, the lowest place first.
 fn put_rows(area: &mut [u8], row: usize, lifts: &[u8], tail: &[u8], g: Records, set: Bits)
@@ -52,11 +54,11 @@ fn write_one(area: &mut [u8], nand: &[u8], s: Closed, q: Query, end: u64) -> u64
     requires { ⌜ (length (rowsIn (closedRows (now nand) s q)) ≤ end) × (end * recordWidth ≤ length (now area)) ⌝ }
     ensures { λ r. ⌜ WrittenUpTo (now (area .entry)) (now (area .exit)) (rowsIn (closedRows (now (nand .entry)) s q)) end r ⌝ }
 {
-    let m = walk::closed_matches(nand, s, q);
+    let m = visit::closed_matches(nand, s, q);
     let set = m.set;
     let row = end - set.count() as u64;
-    let lifts = walk::closed_lifts(nand, s);
-    let g = walk::closed_records(s);
+    let lifts = visit::closed_lifts(nand, s);
+    let g = visit::closed_records(s);
     put_rows(area, row as usize, lifts, lifts, g, set);
     row
 }
@@ -80,11 +82,11 @@ fn write_open(
     if g.count == 0 {
         return end;
     }
-    let m = walk::open_matches(nand, nor, page, g, q);
+    let m = visit::open_matches(nand, nor, page, g, q);
     let set = m.set;
     let row = end - set.count() as u64;
-    let lifts = walk::open_lifts(nand, g);
-    let r = walk::open_records(g);
+    let lifts = visit::open_lifts(nand, g);
+    let r = visit::open_records(g);
     put_rows(area, row as usize, lifts, page, r, set);
     row
 }

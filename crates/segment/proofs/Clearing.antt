@@ -11,7 +11,7 @@ use Rattle.codec.proofs.Truth.{and-left, and-right}
 use Rattle.flash.specs.Chip.{pageErased, programmed}
 use Rattle.flash.specs.Clears.{OnlyClears}
 use Rattle.flash.proofs.Clearing.{clears-none, clears-trans, clears-page}
-use Rattle.segment.specs.declared.Closing.{Closing}
+use Rattle.header.specs.declared.Closing.{Closing}
 use Rattle.segment.specs.Pages.{pageDue, closePage, pageReady, pagesErased, closeErased}
 use Rattle.segment.specs.Pages.{pageProgrammed, pagesProgrammed, closeProgrammed}
 use Rattle.segment.proofs.ClosedPages.{Shaped, length-image, length-one, one-elsewhere}

@@ -12,9 +12,9 @@ use Rattle.codec.proofs.Areas.{length-part, length-repeated}
 use Rattle.flash.specs.Chip.{pageOf, programmed}
 use Rattle.flash.proofs.Pages.{length-programmed, page-programmed, page-elsewhere}
 use Rattle.bloom.proofs.Turns.{length-open-page}
-use Rattle.segment.specs.declared.Closing.{Closing}
+use Rattle.header.specs.declared.Closing.{Closing}
+use Rattle.header.proofs.HeaderBytes.{length-header}
 use Rattle.segment.specs.Pages.{pageDue, closePage, pageProgrammed, pagesProgrammed, closeProgrammed}
-use Rattle.segment.proofs.HeaderBytes.{length-header}
 use Rattle.segment.proofs.Turns.{image-lifts, image-tree, image-bloom, image-header}
 use Rattle.segment.proofs.TreeRun.{treeRun}
 

@@ -18,8 +18,8 @@ use Rattle.bloom.proofs.Stored.{length-sectionsFrom, whole-section, last-sectio
 use Rattle.form.specs.declared.Form.{Form}
 use Rattle.skiplist.specs.declared.Pointer.{Pointer}
 use Rattle.skiplist.specs.PointerBytes.{pointerBytes, pointersBytes}
-use Rattle.segment.specs.declared.Closing.{Closing}
-use Rattle.segment.specs.Header.{countBytes, spanBytes, headerPage}
+use Rattle.header.specs.declared.Closing.{Closing}
+use Rattle.header.specs.Header.{countBytes, spanBytes, headerPage}
 use Rattle.segment.specs.Pages.{closePage}
 use Rattle.segment.proofs.ClosedPages.{Shaped}
 use Rattle.segment.proofs.Turns.{image-lifts, image-tree, image-bloom, image-header}

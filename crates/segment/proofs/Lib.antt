@@ -1,11 +1,6 @@
-pub mod Fields
 pub mod Tests
-pub mod HeaderBytes
 pub mod Turns
 pub mod ClosedPages
-pub mod HeaderRead
-pub mod HeaderSound
-pub mod HeaderFacts
 pub mod TreeArea
 pub mod ReadBack
 pub mod LiftsRead

@@ -14,7 +14,7 @@ use Rattle.codec.specs.Number.{le}
 use Rattle.codec.proofs.Areas.{length-part, length-splice, part-before, part-inside, part-after, part-splice, agree-at-parts}
 use Rattle.flash.specs.Chip.{pageStart, pageOf, pagesOf}
 use Rattle.lift.specs.Rows.{timeIn, codeIn, recordIn}
-use Rattle.segment.specs.declared.Closing.{Closing}
+use Rattle.header.specs.declared.Closing.{Closing}
 use Rattle.segment.specs.Pages.{closeProgrammed}
 use Rattle.segment.proofs.ClosedPages.{Shaped, length-closed, page-closed}
 use Rattle.segment.proofs.Tests.{due-lifts}

@@ -14,8 +14,8 @@ use Rattle.flash.specs.Chip.{pageStart, pageOf, pagesOf, erasedPage}
 use Rattle.bloom.specs.Pages.{sectionCount, sectionsFrom, bloomPage, sectionsIn}
 use Rattle.bloom.proofs.Stored.{length-sectionsFrom, length-section}
 use Rattle.bloom.proofs.Pages.{pages-read-back}
-use Rattle.segment.specs.declared.Closing.{Closing}
-use Rattle.segment.specs.Header.{headerPage}
+use Rattle.header.specs.declared.Closing.{Closing}
+use Rattle.header.specs.Header.{headerPage}
 use Rattle.segment.specs.Pages.{pageDue, closePage, closeProgrammed}
 use Rattle.segment.proofs.ClosedPages.{Shaped, length-closed, page-closed}
 use Rattle.segment.proofs.Tests.{due-tree}

@@ -1,14 +1,18 @@
--- A tree page as a run of NOR's bytes and 255 behind it, and the tree pages that are due, by plain numbers: buckets stand side by side.
+-- A tree page as a run of NOR's bytes and 255 behind it, as it is written and by plain numbers, and the tree pages that are due, by
+-- plain numbers: buckets stand side by side.
 use mathlib.Core.Path.{_≡_, sym, _∙_}
 use mathlib.Core.List.{List, _++_}
 use Prim.Native.Nat.{ℕ, zero, suc, _+_, _-_, _*_, _/_, _≤_, _<_, min}
 use native.Mathlib.Decide.{decLt}
 use native.Mathlib.Omega.{arith}
 use lib.Dec.{ltb}
+use lib.ListN.{length}
 use borrow.Author.Tests.{lt-ltb, le-ltb, le-leb, lt-leb}
-use Rattle.codec.specs.Area.{part, repeated}
-use Rattle.tree.specs.Place.{bucketStart}
+use Rattle.codec.specs.Area.{part, splice, repeated}
+use Rattle.codec.proofs.Areas.{length-part}
+use Rattle.tree.specs.Place.{treeStart, bucketStart}
 use Rattle.tree.proofs.Starts.{bucket-start}
+use Rattle.header.proofs.Fields.{front-put}
 use Rattle.segment.specs.Pages.{holdsBucket, treePage}
 
 -- tree page 20 + i
@@ -22,6 +26,15 @@ tree-run nor buckets p =
     let a : 512 * (p - 20) ≡ (p - 20) * 512 = omega arith in
     let b : bucketStart buckets ≡ buckets * 128 = omega (arith, bucket-start buckets) in
     rw (b, a)
+
+-- a tree page as the code writes it
+pub tree-put : (nor : List ℕ) (buckets p a end n : ℕ) (z d run : List ℕ) → a ≡ treeStart p → end ≡ bucketStart buckets → a < end
+    → end ≤ length nor → n ≡ min 512 (end - a) → z ≡ repeated 512 255 → run ≡ part nor a n → d ≡ splice z 0 run
+    → d ≡ treePage nor buckets p
+unfolding treePage
+tree-put nor buckets p a end n z d run ea ee h k en ez er ed =
+    let l = length-part nor a n (omega arith) in
+    rw (← ea, ← ee, ← en, ed, er, ez) (front-put 512 255 (part nor a n) (omega arith) ∙ rw l)
 
 -- a page that holds a bucket
 pub holds-by : (buckets p : ℕ) → 20 ≤ p → ltb ((p - 20) * 4) buckets ≡ holdsBucket buckets p

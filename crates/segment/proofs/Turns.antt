@@ -8,8 +8,8 @@ use native.Mathlib.Omega.{arith}
 use borrow.Author.Tests.{lt-ltb, le-ltb, ltb-true}
 use Rattle.flash.specs.Chip.{pageErased, programmed}
 use Rattle.bloom.specs.Pages.{sectionsFrom, bloomPage}
-use Rattle.segment.specs.declared.Closing.{Closing}
-use Rattle.segment.specs.Header.{headerPage}
+use Rattle.header.specs.declared.Closing.{Closing}
+use Rattle.header.specs.Header.{headerPage}
 use Rattle.segment.specs.Pages.{pageDue, treePage, closePage, pageReady, pagesErased, pageProgrammed, pagesProgrammed}
 use Rattle.segment.proofs.Tests.{due-tree}
 use Rattle.segment.proofs.TreeRun.{treeRun, tree-run}

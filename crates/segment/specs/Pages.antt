@@ -8,8 +8,8 @@ use Rattle.codec.specs.Area.{part, repeated}
 use Rattle.flash.specs.Chip.{pageErased, programmed, pageWidth, slotPages, treeFirst, bloomFirst, bloomSecond, headerLast}
 use Rattle.bloom.specs.Pages.{sectionsFrom, fiveSections, bloomPage}
 use Rattle.tree.specs.Place.{bucketPage, treeStart, bucketStart}
-use Rattle.segment.specs.declared.Closing.{Closing}
-use Rattle.segment.specs.Header.{headerPage}
+use Rattle.header.specs.declared.Closing.{Closing}
+use Rattle.header.specs.Header.{headerPage}
 
 -- "20–28 tree": the pages that hold a bucket
 abbrev pub holdsBucket : ℕ → ℕ → Bool

@@ -1,4 +1,5 @@
 // The service page (document 02, W-201): a tally laid out for the wall, line by line.
+use lines::LINE_FEED;
 use lines::SPACE;
 use lines::TIME_COLUMNS;
 use plate::PLATES;
@@ -7,10 +8,9 @@ ghost use mathlib.Core.List.{[], _∷_, _++_};
 ghost use Prim.Native.Nat.{_+_, _^_, _≤_, _<_};
 ghost use lib.ListN.{length};
 ghost use Rattle.codec.specs.Area.{splice};
-ghost use Rattle.plate.specs.Plate.{total};
+ghost use Rattle.plate.specs.Plate.{plates, total};
 ghost use Rattle.service_page.specs.Page as Page;
 
-const LINE_FEED: u8 = 10;
 // "a page 40 columns wide", and a line feed
 const LINE_BYTES: usize = 41;
 
@@ -59,7 +59,7 @@ fn put_plate(s: &mut [u8], at: usize, all: u64, plate: u64, count: u64)
 // "one line for each plate, heaviest first"
 fn put_plates(s: &mut [u8], at: usize, counts: [u64; PLATES], all: u64)
     requires { ⌜ (at + 861 ≤ length (now s)) × ((all ≡ total counts) × (total counts < 2 ^ 57)) ⌝ }
-    ensures { λ _. ⌜ now (s .exit) ≡ splice (now (s .entry)) at (Page.textOf (Page.plateLines counts 21)) ⌝ }
+    ensures { λ _. ⌜ now (s .exit) ≡ splice (now (s .entry)) at (Page.textOf (Page.plateLines counts plates)) ⌝ }
 {
     let mut to = at;
     let mut left = PLATES;

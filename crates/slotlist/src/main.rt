@@ -47,7 +47,7 @@ fn accept(nand: &mut [u8], nor: &mut [u8], s: Reader, b: u8) -> Reader
     ensures { λ r. ⌜ (r .len ≤ 48) × (desk (now (nand .exit)) (now (nor .exit)) r
         ≡ typed (desk (now (nand .entry)) (now (nor .entry)) s) b) ⌝ }
 {
-    if b == desk::LINE_FEED {
+    if lines::ends_line(b) {
         return obey_line(nand, nor, s);
     }
     desk::pushed(s, b)
@@ -117,7 +117,7 @@ fn run(nand: &mut [u8], nor: &mut [u8], state: State) {
 
 fn main() {
     let mut nand = [0u8; desk::NAND_BYTES];
-    let mut nor = [0u8; desk::NOR_BYTES];
+    let mut nor = [0u8; flash::NOR_BYTES];
     let s = desk::formatted(&mut nand, &mut nor);
     run(&mut nand, &mut nor, s);
 }

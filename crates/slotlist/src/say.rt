@@ -27,14 +27,14 @@ const LIFT_BYTES: usize = 24;
 
 // Letter and number.
 fn head(letter: u8, number: u8) {
-    let mut o = [desk::LINE_FEED; HEAD_BYTES];
+    let mut o = [lines::LINE_FEED; HEAD_BYTES];
     answers::put_head(&mut o, letter, number);
     io::write_all(STDOUT, &o);
 }
 
 // The head of an accepted search and its count.
 fn count(n: u64) {
-    let mut o = [desk::LINE_FEED; COUNT_BYTES];
+    let mut o = [lines::LINE_FEED; COUNT_BYTES];
     answers::put_head(&mut o, LETTER_Q, 0);
     answers::put_count(&mut o, 4, n);
     io::write_all(STDOUT, &o);
@@ -44,9 +44,9 @@ fn count(n: u64) {
 fn row(area: &[u8], at: usize)
     requires { ⌜ at * 32 + 32 ≤ length (now area) ⌝ }
 {
-    let mut o = [desk::LINE_FEED; LIFT_BYTES];
-    let time = lift::record_time(area, at * desk::ROW_BYTES);
-    let code = lift::record_code(area, at * desk::ROW_BYTES);
+    let mut o = [lines::LINE_FEED; LIFT_BYTES];
+    let time = lift::record_time(area, at * lift::RECORD_BYTES);
+    let code = lift::record_code(area, at * lift::RECORD_BYTES);
     answers::put_lift(&mut o, time, code);
     io::write_all(STDOUT, &o);
 }
@@ -83,7 +83,7 @@ fn tally(nand: &[u8], nor: &[u8], s: State, t1: u64, t2: u64) {
         return;
     }
     let counts = t.counts;
-    let mut o = [desk::LINE_FEED; COUNTS_BYTES];
+    let mut o = [lines::LINE_FEED; COUNTS_BYTES];
     answers::put_head(&mut o, LETTER_T, 0);
     answers::put_counts(&mut o, counts);
     io::write_all(STDOUT, &o);
@@ -91,7 +91,7 @@ fn tally(nand: &[u8], nor: &[u8], s: State, t1: u64, t2: u64) {
 
 // A tally's service page.
 fn page(nand: &[u8], nor: &[u8], s: State, t1: u64, t2: u64) {
-    let mut o = [desk::LINE_FEED; page_line::ANSWER_BYTES];
+    let mut o = [lines::LINE_FEED; page_line::ANSWER_BYTES];
     let n = page_line::page_answer(nand, nor, s, t1, t2, &mut o);
     io::write_all(STDOUT, &o[..n]);
 }

@@ -7,7 +7,7 @@ use native.Mathlib.Omega.{arith}
 use native.Mathlib.Numerals.{add-one}
 use lib.ListN.{length, drop, getD, drop-of-length-le}
 use lib.Seq.{drop-cons}
-use lib.IntN.{ℤ, pos, subℕ, _+ℤ_, _*ℤ_}
+use lib.IntN.{pos, subℕ, _+ℤ_, _*ℤ_}
 use lib.Signed.{shrZ}
 use Rattle.lift.specs.Limits.{loadOf}
 use Rattle.lift.proofs.Differences as D

@@ -15,25 +15,19 @@ use Rattle.form.specs.Forms.{pointerWidth}
 use Rattle.skiplist.specs.declared.Pointer.{Pointer}
 use Rattle.skiplist.specs.PointerBytes.{pointersBytes}
 use Rattle.skiplist.proofs.Pointers.{length-pointers}
-use Rattle.segment.proofs.Fields.{fields-put}
+use Rattle.header.proofs.Fields.{fields-put}
 use Rattle.store.specs.declared.OldState.{OldState}
 use Rattle.store.specs.declared.State.{State}
-use Rattle.state_bytes.specs.Signed.{unsigned, loadBytes, loadsBytes}
-use Rattle.state_bytes.proofs.SideBySide.{more, length-side}
-use Rattle.state_bytes.specs.declared.Counters.{Counters}
-use Rattle.state_bytes.specs.declared.Span.{Span}
+use Rattle.loads.specs.Signed.{loadBytes, loadsBytes}
+use Rattle.loads.proofs.SideBySide.{more}
+use Rattle.loads.proofs.Loads.{length-load, length-loads}
+use Rattle.state_bytes.specs.declared.pieces.Counters.{Counters}
+use Rattle.state_bytes.specs.declared.pieces.Span.{Span}
 use Rattle.state_bytes.specs.StateBytes.{liveWidth, headsFrom, loadsFrom, areaLength}
 use Rattle.state_bytes.specs.StateBytes.{bytesIn, oldStateBytes}
 use Rattle.state_bytes.specs.Inner.Fields.{countersOf, spanOf, countersBytes, spanBytes, fieldsBytes}
 
 -- ---- lengths
-
-pub length-load : (z : ℤ) → length (loadBytes z) ≡ 4
-unfolding loadBytes
-length-load z = length-bytes 4 (unsigned z)
-
-pub length-loads : (zs : List ℤ) → length (loadsBytes zs) ≡ 4 * length zs
-length-loads zs = length-side loadBytes 4 length-load zs
 
 pub length-counters : (c : Counters) → length (countersBytes c) ≡ 19
 unfolding countersBytes

@@ -1,3 +1,2 @@
-pub mod Signed
 pub mod StateBytes
 pub mod Inner

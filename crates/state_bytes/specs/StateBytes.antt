@@ -16,7 +16,7 @@ use Rattle.skiplist.specs.PointerBytes.{pointersBytes, pointersAt}
 use Rattle.skiplist.specs.Skip.{levels}
 use Rattle.store.specs.declared.OldState.{OldState}
 use Rattle.store.specs.declared.State.{State}
-use Rattle.state_bytes.specs.Signed.{loadBytes, loadsBytes, loadAt, loadsAt}
+use Rattle.loads.specs.Signed.{loadBytes, loadsBytes, loadAt, loadsAt}
 
 -- ---- what the forms differ in
 
@@ -76,5 +76,3 @@ stateIn b = stateAs New b
 
 unfoldable pub oldStateIn : List ℕ → OldState
 oldStateIn b = record { state = stateAs Old b; live = numberAt b 19 8 }
-
--- ---- groups of fields

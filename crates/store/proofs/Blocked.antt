@@ -8,7 +8,7 @@ use native.Mathlib.Omega.{arith}
 use lib.Dec.{eqb}
 use lib.IntN.{ℤ}
 use lib.ListN.{length}
-use Rattle.codec.proofs.Truth.{or-false}
+use Rattle.codec.proofs.Truth.{or-false, not-twice}
 use Rattle.codec.specs.Area.{part, repeated, allOnes}
 use Rattle.codec.proofs.Areas.{part-repeated, ones-repeated}
 use Rattle.flash.specs.Chip.{slotOf, pageErased}
@@ -18,7 +18,6 @@ use Rattle.tree.specs.Plan.{Plan, damaged, noRoom, newRoot, intoBucket, newChil
 use Rattle.tree.specs.Writes.{writesOf, allClear}
 use Rattle.bounds.specs.Grounds.{ground}
 use Rattle.store.specs.declared.State.{State}
-use Rattle.store.proofs.Rows.{twice}
 use Rattle.store.specs.World.{World, world, closeWorld, movedOn, fillsPage}
 use Rattle.store.specs.Calls.{roomWorld, norClear, appendDamage, appendUnerased, dropsFirst}
 use Rattle.store.specs.Inner.Pieces.{laterGround}
@@ -71,7 +70,7 @@ module _ (nand nor : List ℕ) (s : State) (slots : ℕ) (load : ℤ) (p : Plan)
       → ground 11 (not free) 0 ≡ laterGround w slots load p
   unfolding appendUnerased
   put-unerased slot free h e f =
-      rw (later, h, room, f, e) (ap (λ b. ground 11 b 0) (sym (twice (fillsPage s && not (pageErased nand (slotOf (s .current) slots) (s .count / 16))))))
+      rw (later, h, room, f, e) (ap (λ b. ground 11 b 0) (sym (not-twice (fillsPage s && not (pageErased nand (slotOf (s .current) slots) (s .count / 16))))))
 
 -- ---- after a close
 

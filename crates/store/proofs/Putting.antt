@@ -8,7 +8,7 @@ use native.Mathlib.Omega.{arith}
 use lib.Dec.{eqb}
 use lib.IntN.{ℤ}
 use lib.ListN.{length, getD}
-use borrow.Author.Tests.{eq-eqb, ne-eqb, eqb-true, eqb-false}
+use borrow.Author.Tests.{eqb-true, eqb-false}
 use Rattle.codec.specs.Area.{part, splice, allOnes}
 use Rattle.codec.proofs.Areas.{length-part}
 use Rattle.codec.proofs.Truth.{and-left, and-right}
@@ -25,32 +25,9 @@ use Rattle.bounds.specs.Lifts.{pushed, lowWith, highWith}
 use Rattle.grow.specs.declared.Plan.{Plan}
 use Rattle.grow.specs.Inner.Meaning.{meaning, Fitting}
 use Rattle.store.specs.declared.State.{State}
-use Rattle.store.proofs.Rows.{twice}
 use Rattle.store.specs.World.{world, putWorld, stateWith, liveWith, pageWith, bloomWith, fillsPage, fillsSection, nandWith, norWith, stateGiven}
 use Rattle.store.specs.Calls.{planOf, norClear}
 use Rattle.store.specs.Inner.Pieces.{Suits}
-
--- ---- one of two, by a number
-
-module _ {A : Type 0} (n k : ℕ) (x y : A) where
-  pub chosen : (r : A) → n ≡ k → r ≡ x → r ≡ cond (eqb n k) x y
-  chosen r h e = rw (eq-eqb n k h) e
-
-  pub passed : (n ≡ k → ⊥) → y ≡ cond (eqb n k) x y
-  passed h = rw (ne-eqb n k h)
-
--- a test that is asked only at a number
-pub asked : (n k : ℕ) (e r : Bool) → n ≡ k → r ≡ e → r ≡ not (eqb n k && not e)
-asked n k e r h f = rw (eq-eqb n k h, f) (twice e)
-
-pub unasked : (n k : ℕ) (e : Bool) → (n ≡ k → ⊥) → true ≡ not (eqb n k && not e)
-unasked n k e h = rw (ne-eqb n k h)
-
-pub asked-or : (n k : ℕ) (e r : Bool) → n ≡ k → r ≡ e → r ≡ (not (eqb n k) || e)
-asked-or n k e r h f = rw (eq-eqb n k h) f
-
-pub unasked-or : (n k : ℕ) (e : Bool) → (n ≡ k → ⊥) → true ≡ (not (eqb n k) || e)
-unasked-or n k e h = rw (ne-eqb n k h)
 
 -- ---- the plan
 

@@ -1,14 +1,10 @@
 -- Grounds 1 to 3 in a row before later ones, whatever their tests: where one holds the later do not matter, where none holds they
 -- decide. Assumes nothing.
 use mathlib.Core.Path.{_≡_, refl}
-use mathlib.Core.Bool.{Bool, true, false, not}
+use mathlib.Core.Bool.{Bool, true, false}
 use Prim.Native.Nat.{ℕ}
 use native.Mathlib.Omega.{arith}
 use Rattle.bounds.specs.Grounds.{ground}
-
-pub twice : (b : Bool) → b ≡ not (not b)
-twice true = refl
-twice false = refl
 
 abbrev pub row : Bool → Bool → Bool → ℕ → ℕ
 row a b c later = ground 1 a (ground 2 b (ground 3 c later))

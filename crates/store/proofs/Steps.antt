@@ -11,7 +11,7 @@ use Rattle.bloom.specs.Bloom.{emptySection}
 use Rattle.form.specs.declared.Form.the-variants.{New}
 use Rattle.skiplist.specs.declared.Pointer.{Pointer}
 use Rattle.skiplist.specs.Skip.{none, pointer, levelOf, headsAfter}
-use Rattle.segment.specs.declared.Closing.{Closing}
+use Rattle.header.specs.declared.Closing.{Closing}
 use Rattle.segment.specs.Pages.{closeProgrammed}
 use Rattle.bounds.specs.Lifts.{noLoads}
 use Rattle.store.specs.declared.State.{State}

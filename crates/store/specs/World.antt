@@ -16,9 +16,9 @@ use Rattle.form.specs.declared.Form.{Form}
 use Rattle.form.specs.declared.Form.the-variants.{Old, New}
 use Rattle.form.specs.Forms.{step}
 use Rattle.skiplist.specs.Skip.{Live, pointing, levelOf, headsAfter}
-use Rattle.segment.specs.declared.Closing.{Closing}
-use Rattle.segment.specs.declared.Header.{Header}
-use Rattle.segment.specs.Header.{headerIn}
+use Rattle.header.specs.declared.Closing.{Closing}
+use Rattle.header.specs.declared.Header.{Header}
+use Rattle.header.specs.Header.{headerIn}
 use Rattle.segment.specs.Pages.{closeProgrammed}
 use Rattle.tree.specs.Plan.{Plan}
 use Rattle.tree.specs.Writes.{writesOf, allWritten, bucketsAfter}

@@ -6,7 +6,6 @@ pub mod pieces;
 
 use crate::Answer;
 use crate::State;
-use crate::parts;
 use flash::PAGE_BYTES;
 use form::Form;
 use grow::Plan;
@@ -81,7 +80,7 @@ impl State {
         ensures { λ r. ⌜ ((load : ℤ) → code ≡ stored load → r ≡ norClear (world [] (now (nor .entry)) self) load (meaning p)) ⌝ }
     {
         let w = grow::writes_of(p, self.buckets, code, self.count);
-        grow::clear(nor, w) & parts::section_clear(nor, self.count)
+        grow::clear(nor, w) & append_parts::section_clear(nor, self.count)
     }
 
     // Grounds 10 and 11 of an append into the open segment as it is.
@@ -95,7 +94,7 @@ impl State {
             return 10;
         }
         let slot = flash::slot_of(self.current, slots);
-        if !parts::page_free(nand, slot, self.count) {
+        if !append_parts::page_free(nand, slot, self.count) {
             return 11;
         }
         0
@@ -107,10 +106,10 @@ impl State {
         ensures { λ r. ⌜ ((load : ℤ) → code ≡ stored load → r
             ≡ laterGround (world (now (nand .entry)) (now (nor .entry)) self) slots load (meaning p)) ⌝ }
     {
-        if parts::is_damaged_plan(p) {
+        if append_parts::is_damaged_plan(p) {
             return 10;
         }
-        if parts::is_full(p) {
+        if append_parts::is_full(p) {
             return self.blocked_closing(nand, slots);
         }
         self.blocked_put(nand, nor, slots, code, p)
@@ -122,7 +121,7 @@ impl State {
         ensures { λ r. ⌜ world (now (nand .exit)) (now (nor .exit)) r
             ≡ roomWorld (world (now (nand .entry)) (now (nor .entry)) self) slots (meaning p) ⌝ }
     {
-        if parts::is_full(p) {
+        if append_parts::is_full(p) {
             return self.closed(nand, nor, slots);
         }
         self
@@ -164,7 +163,7 @@ impl State {
             code,
             note,
         );
-        parts::page_after(nand, slot, self.count, full)
+        append_parts::page_after(nand, slot, self.count, full)
     }
 
     // The entry goes into the tree, the load's bits into the section, and a full section to NOR.
@@ -180,7 +179,7 @@ impl State {
         grow::carry(nor, w);
         let old = self.bloom;
         let full = bloom::note(old, code);
-        parts::section_after(nor, self.count, full)
+        append_parts::section_after(nor, self.count, full)
     }
 
     // The state with the lift, its bucket count and buffers given.
@@ -200,7 +199,7 @@ impl State {
         let loads = bounds::pushed(old, self.count, load);
         let low = bounds::low_after(self.count, self.low, load);
         let high = bounds::high_after(self.count, self.high, load);
-        let start = parts::start_after(self.count, self.start, time);
+        let start = append_parts::start_after(self.count, self.start, time);
         State {
             oldest: self.oldest,
             current: self.current,

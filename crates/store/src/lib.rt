@@ -1,13 +1,12 @@
 // The store (document 01, "State", "Segments", "Twelve grounds"; form 1 of document 02, W-202): its state by value, and the calls as
 // methods.
 pub mod append;
-pub mod parts;
 
 use bloom::SECTION_BYTES;
 use flash::PAGE_BYTES;
 use form::Form;
+use header::Closing;
 use lift::LOADS_KEPT;
-use segment::Closing;
 use skiplist::LEVELS;
 use skiplist::Pointer;
 ghost use mathlib.Core.Path.{_≡_};
@@ -80,7 +79,7 @@ impl State {
     {
         let heads = skiplist::no_heads();
         let loads = bounds::no_loads();
-        let page = parts::blank_page();
+        let page = append_parts::blank_page();
         let bloom = bloom::empty_section();
         State {
             oldest: 1,
@@ -162,7 +161,7 @@ impl State {
         let p = Pointer::new(slot as u16, self.current, self.start);
         let heads = skiplist::heads_after(old, level, p);
         let loads = bounds::no_loads();
-        let page = parts::blank_page();
+        let page = append_parts::blank_page();
         let section = bloom::empty_section();
         self.heads = heads;
         self.loads = loads;

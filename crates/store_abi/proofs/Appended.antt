@@ -20,9 +20,10 @@ use Rattle.store.specs.Inner.Pieces.{Accepted, isPlain, carriedOut}
 use Rattle.store.proofs.Grounds.{standing}
 use Rattle.store.proofs.Plain.{append-refused, append-carried, plain, plain-made}
 use Rattle.state_bytes.specs.StateBytes.{stateBytes, stateAs, stateIn}
-use Rattle.state_bytes.specs.Inner.Fields.{withLift}
+use Rattle.in_place.specs.Inner.WithLift.{withLift}
+use Rattle.kept.proofs.Kept.{kept-old}
 use Rattle.store_abi.specs.Areas.{left, called, appendCalled}
-use Rattle.store_abi.proofs.Leaves.{kept-old, right-length}
+use Rattle.store_abi.proofs.Leaves.{right-length}
 
 -- what a plain lift needs of the area
 pub record Fits (area : List ℕ) (s : State) (nor : ℕ) (p : Plan) : Type 0 where

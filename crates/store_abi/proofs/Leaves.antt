@@ -14,15 +14,10 @@ use Rattle.store.specs.declared.State.{State}
 use Rattle.store.specs.World.{World, world}
 use Rattle.store.specs.Calls as Calls
 use Rattle.store.specs.Calls.{Outcome}
-use Rattle.state_bytes.specs.Signed.{sideBySide}
+use Rattle.loads.specs.Signed.{sideBySide}
 use Rattle.state_bytes.specs.StateBytes.{stateBytes}
-use Rattle.store_abi.specs.Areas.{left, kept, leaves, newBytes, called, Answered, replied, repliedIn}
-
-pub kept-new : (n : ℕ) (new old : List ℕ) → n ≡ 0 → kept n new old ≡ new
-kept-new n new old e = ap (λ (k : ℕ). kept k new old) e
-
-pub kept-old : (n : ℕ) (new old : List ℕ) → (n ≡ 0 → ⊥) → kept n new old ≡ old
-kept-old n new old h = ap (λ t. cond t new old) (ne-eqb n 0 h)
+use Rattle.kept.specs.Kept.{kept}
+use Rattle.store_abi.specs.Areas.{left, leaves, newBytes, called, Answered, replied, repliedIn}
 
 -- ---- two lengths
 

@@ -13,9 +13,10 @@ use Rattle.form.specs.declared.Form.the-variants.{Old, New}
 use Rattle.store.specs.World.{World, world}
 use Rattle.store.specs.Calls.{Outcome, formatOutcome, appendOutcome, closeOutcome, dropOutcome}
 use Rattle.questions.specs.Queries.{searchOutcome, tallyOutcome}
-use Rattle.state_bytes.specs.Signed.{sideBySide}
+use Rattle.loads.specs.Signed.{sideBySide}
 use Rattle.conversion.specs.Outcome.{forwardOutcome, backwardOutcome}
 use Rattle.state_bytes.specs.StateBytes.{stateBytes, stateIn, oldStateBytes, oldStateIn, areaLength}
+use Rattle.kept.specs.Kept.{kept}
 
 -- what a call that writes leaves: its number, the state's area and both chips
 pub record Left : Type 0 where
@@ -26,10 +27,6 @@ pub record Left : Type 0 where
 
 abbrev pub left : ℕ → List ℕ → List ℕ → List ℕ → Left
 left number state nand nor = record { number = number; state = state; nand = nand; nor = nor }
-
--- what stands in an area after a call with this number: something new only where it is accepted
-abbrev pub kept : ℕ → List ℕ → List ℕ → List ℕ
-kept number new old = cond (eqb number 0) new old
 
 -- number 20, before everything else: an area of a state has another length; else the call's number, and if that is 0 the next state's
 -- bytes

@@ -1,10 +1,9 @@
 // The calls for C and Rust: byte areas and numbers only. The state is a lent area of 783 bytes, 775 in form 0, the other answers are an
 // area of 8-byte numbers. Each call returns its number; 20 where one of these areas has another length, before everything else.
-use conversion::OldAnswer;
 use grow::Plan;
+use kept::NUMBER_BYTES;
 use lift::NOTE_BYTES;
 use plate::PLATES;
-use store::Answer;
 use store::State;
 use store::append::pieces;
 ghost use mathlib.Core.Path.{_≡_};
@@ -12,85 +11,24 @@ ghost use mathlib.Core.Bool.{true};
 ghost use mathlib.Core.List.{[]};
 ghost use Prim.Native.Nat.{_≤_};
 ghost use lib.ListN.{length};
-ghost use Rattle.form.specs.declared.Form.the-variants.{Old, New};
+ghost use Rattle.form.specs.declared.Form.the-variants.{New};
 ghost use Rattle.tree.specs.Rules.{bucketsMost};
 ghost use Rattle.lift.specs.Rows.{liftsMost};
-ghost use Rattle.codec.specs.Number.{bytes, numberAt};
+ghost use Rattle.codec.specs.Number.{numberAt};
 ghost use Rattle.lift.specs.Limits.{loadOk, stored};
 ghost use Rattle.tree.specs.Writes.{writesOf, allWritten, bucketsAfter};
 ghost use Rattle.grow.specs.Inner.Meaning.{meaning, Fitting};
-ghost use Rattle.state_bytes.specs.Signed.{sideBySide};
-ghost use Rattle.state_bytes.specs.StateBytes.{stateBytes, oldStateBytes, stateIn, areaLength};
-ghost use Rattle.state_bytes.specs.Inner.Fields.{withLift};
-ghost use Rattle.store_abi.specs.Areas.{left, kept, replied};
+ghost use Rattle.state_bytes.specs.StateBytes.{stateBytes, stateIn, areaLength};
+ghost use Rattle.in_place.specs.Inner.WithLift.{withLift};
+ghost use Rattle.store_abi.specs.Areas.{left, replied};
 ghost use Rattle.store_abi.specs.Areas.{formatCalled, appendCalled, closeCalled, dropCalled};
 ghost use Rattle.store_abi.specs.Areas.{forwardCalled, backwardCalled};
 ghost use Rattle.store_abi.specs.Areas.{searchCalled, tallyCalled, plateCalled};
 
 // One of the areas of state and answers has another length.
 const AREA_LENGTH: u8 = 20;
-// A count, or a plate.
-const NUMBER_BYTES: usize = 8;
 // A tally's counts.
 const COUNTS_BYTES: usize = 8 * PLATES;
-
-// The next state goes into its area if the call was accepted.
-fn keep_state(area: &mut [u8], a: Answer) -> u8
-    requires { ⌜ length (now area) ≡ areaLength New ⌝ }
-    ensures number { λ r. ⌜ r ≡ a .number ⌝ }
-    ensures state { λ _. ⌜ now (area .exit) ≡ kept (a .number) (stateBytes (a .state)) (now (area .entry)) ⌝ }
-{
-    if a.number == 0 {
-        let s = a.state;
-        state_bytes::put_state(area, s);
-    }
-    a.number
-}
-
-// The same for a state of form 0.
-fn keep_old_state(area: &mut [u8], o: OldAnswer) -> u8
-    requires { ⌜ length (now area) ≡ areaLength Old ⌝ }
-    ensures number { λ r. ⌜ r ≡ o .number ⌝ }
-    ensures state { λ _. ⌜ now (area .exit) ≡ kept (o .number) (oldStateBytes (o .state)) (now (area .entry)) ⌝ }
-{
-    if o.number == 0 {
-        let s = o.state;
-        state_bytes::put_old_state(area, s);
-    }
-    o.number
-}
-
-// A number goes into the area of the answer if the call was accepted.
-fn keep_number(answer: &mut [u8], number: u8, value: u64)
-    requires { ⌜ length (now answer) ≡ 8 ⌝ }
-    ensures { λ _. ⌜ now (answer .exit) ≡ kept number (bytes 8 value) (now (answer .entry)) ⌝ }
-{
-    if number == 0 {
-        codec::put_u64(answer, 0, value);
-    }
-}
-
-fn put_counts(answer: &mut [u8], counts: [u64; PLATES])
-    requires { ⌜ length (now answer) ≡ 168 ⌝ }
-    ensures { λ _. ⌜ now (answer .exit) ≡ sideBySide (bytes 8) counts ⌝ }
-{
-    let mut i: usize = 0;
-    while i < plate::PLATES {
-        let n = counts[i];
-        codec::put_u64(answer, NUMBER_BYTES * i, n);
-        i += 1;
-    }
-}
-
-// The counts go into the area of the answer if the tally was accepted.
-fn keep_counts(answer: &mut [u8], number: u8, counts: [u64; PLATES])
-    requires { ⌜ length (now answer) ≡ 168 ⌝ }
-    ensures { λ _. ⌜ now (answer .exit) ≡ kept number (sideBySide (bytes 8) counts) (now (answer .entry)) ⌝ }
-{
-    if number == 0 {
-        put_counts(answer, counts);
-    }
-}
 
 #[no_mangle]
 pub extern "C" fn store_format(state: &mut [u8], nand: &mut [u8], nor: &mut [u8], slots: u64) -> u8
@@ -101,7 +39,7 @@ pub extern "C" fn store_format(state: &mut [u8], nand: &mut [u8], nor: &mut [u8]
         return AREA_LENGTH;
     }
     let a = State::format(nand, nor, slots);
-    keep_state(state, a)
+    kept::keep_state(state, a)
 }
 
 // A plain lift goes straight into NOR and the area of the state; no page and no section goes out.
@@ -126,7 +64,7 @@ fn put_plain(
     let w = grow::writes_of(p, buckets, code, count);
     grow::carry(nor, w);
     let after = grow::buckets_after(p, buckets);
-    state_bytes::in_place::put_lift(state, time, code, load, note, after);
+    in_place::put_lift(state, time, code, load, note, after);
 }
 
 #[no_mangle]
@@ -172,7 +110,7 @@ pub extern "C" fn store_close(state: &mut [u8], nand: &mut [u8], nor: &mut [u8],
     }
     let s = state_bytes::get_state(state);
     let a = s.close(nand, nor, slots);
-    keep_state(state, a)
+    kept::keep_state(state, a)
 }
 
 #[no_mangle]
@@ -185,7 +123,7 @@ pub extern "C" fn store_drop(state: &mut [u8], nand: &mut [u8], nor: &[u8], slot
     }
     let s = state_bytes::get_state(state);
     let a = s.drop(nand, nor, slots);
-    keep_state(state, a)
+    kept::keep_state(state, a)
 }
 
 #[no_mangle]
@@ -213,7 +151,7 @@ pub extern "C" fn store_search(
     }
     let s = state_bytes::get_state(state);
     let f = questions::search(s, nand, nor, slots, t1, t2, k1, k2, rows);
-    keep_number(answer, f.number, f.count);
+    kept::keep_number(answer, f.number, f.count);
     f.number
 }
 
@@ -239,7 +177,7 @@ pub extern "C" fn store_tally(
     let s = state_bytes::get_state(state);
     let t = questions::tally(s, nand, nor, slots, t1, t2);
     let counts = t.counts;
-    keep_counts(answer, t.number, counts);
+    kept::keep_counts(answer, t.number, counts);
     t.number
 }
 
@@ -251,7 +189,7 @@ pub extern "C" fn store_plate(load: i32, answer: &mut [u8]) -> u8
         return AREA_LENGTH;
     }
     let p = plate::plate_of(load);
-    keep_number(answer, p.number, p.plate as u64);
+    kept::keep_number(answer, p.number, p.plate as u64);
     p.number
 }
 
@@ -278,7 +216,7 @@ pub extern "C" fn store_forward(
     }
     let s = state_bytes::get_old_state(old);
     let a = conversion::forward(s, nand, nor, slots, to_nand, to_nor);
-    keep_state(state, a)
+    kept::keep_state(state, a)
 }
 
 // And back.
@@ -304,5 +242,6 @@ pub extern "C" fn store_backward(
     }
     let s = state_bytes::get_state(state);
     let o = conversion::backward(s, nand, nor, slots, to_nand, to_nor);
-    keep_old_state(old, o)
+    let t = o.state;
+    kept::keep_old_state(old, o.number, t)
 }

@@ -1,6 +1,6 @@
 // The calls of the script that change the store. A lift's note is made from its time and its place in the segment.
-use crate::Trial;
 use crate::script::Order;
+use case_print::Trial;
 use plain_list::PlainLog;
 use store::Answer;
 use store::State;

@@ -2,12 +2,11 @@
 // script on standard input, which says at its head what its lines mean.
 mod asks;
 mod calls;
-mod digest;
-mod print;
 mod script;
 
+use case_print::Trial;
+use plate::PLATES;
 use script::Order;
-use store::State;
 
 const NAND_BYTES: usize = 49152;
 
@@ -17,8 +16,6 @@ const NOR_BYTES: usize = 6144;
 const SLOTS: u64 = 3;
 
 const SCRIPT_BYTES: usize = 16384;
-
-const PLATES: usize = 21;
 
 const NAND_BYTE: u8 = b'b';
 
@@ -40,18 +37,6 @@ const CHIPS: u8 = b'H';
 
 const END: u8 = b'E';
 
-// The store's state, how much of the chips the calls are lent, and what the last call answered.
-pub struct Trial {
-    pub state: State,
-    pub slots: u64,
-    pub nand: usize,
-    pub nor: usize,
-    pub number: u8,
-    pub found: u64,
-    pub area: u64,
-    pub counts: [u64; PLATES],
-}
-
 fn put(s: &mut [u8], at: u64, v: u64) {
     let i = at as usize;
     if i < s.len() {
@@ -70,13 +55,13 @@ fn change_byte(nand: &mut [u8], nor: &mut [u8], o: Order) {
 
 fn say(nand: &[u8], nor: &[u8], t: Trial, letter: u8) {
     match letter {
-        STATE => print::state(nand, nor, t),
-        ROWS => print::rows(t),
-        COUNTS => print::counts(t),
-        NUMBER => print::number(t.number as u64),
-        FOUND => print::item(b"/", t.found),
-        CHIPS => print::chips(nand, nor),
-        END => print::end_line(),
+        STATE => case_print::state(nand, nor, t),
+        ROWS => case_print::rows(t),
+        COUNTS => case_print::counts(t),
+        NUMBER => case_print::number(t.number as u64),
+        FOUND => case_print::item(b"/", t.found),
+        CHIPS => case_print::chips(nand, nor),
+        END => case_print::end_line(),
         _ => {}
     }
 }
@@ -86,7 +71,7 @@ fn say_text(line: &[u8], letter: u8) {
         return;
     }
     let at = script::text_start(line);
-    print::text(&line[at..]);
+    case_print::text(&line[at..]);
 }
 
 fn with_call(nand: &mut [u8], nor: &mut [u8], t0: Trial, o: Order) -> Trial {

@@ -13,8 +13,8 @@ use Rattle.lift.specs.Record.{codeAt}
 use Rattle.lift.specs.Rows.{codeIn, recordIn}
 use Rattle.sweep.specs.declared.Records.{Records}
 use Rattle.sweep.specs.Inner.Swept.{Recorded}
-use Rattle.walk.proofs.Emptying.{recorded-at}
-use Rattle.search.proofs.Placed.{Placed}
+use Rattle.visit.proofs.Emptying.{recorded-at}
+use Rattle.found.proofs.Placed.{Placed}
 use Rattle.tally.specs.Answers.{rowCodes}
 
 module _ (lifts tail : List ℕ) (g : Records) (r : Recorded lifts tail g) (p : ℕ) (h : p < g .count) where

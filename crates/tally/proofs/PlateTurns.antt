@@ -10,23 +10,24 @@ use borrow.Author.Tests.{not-true, not-false}
 use Rattle.codec.proofs.Truth.{and-left, and-right}
 use Rattle.plate.specs.Plate.{noCounts}
 use Rattle.skiplist.specs.Skip.{Live}
-use Rattle.walk.specs.declared.Closed.{Closed}
+use Rattle.visit.specs.declared.Closed.{Closed}
+use Rattle.visit.specs.declared.Log.{Log}
+use Rattle.visit.specs.declared.Query.{Query}
+use Rattle.visit.specs.Visit.{closedRows, openRows}
 use Rattle.walk.specs.declared.Cursor.{Cursor}
-use Rattle.walk.specs.declared.Log.{Log}
-use Rattle.walk.specs.declared.Query.{Query}
 use Rattle.walk.specs.declared.Step.the-variants.{End, Damage, Pass, Visit}
-use Rattle.walk.specs.Visit.{advanceOf, closedRows, openRows}
+use Rattle.walk.specs.Advance.{advanceOf}
 use Rattle.walk.specs.Inner.Sound.{Sound, Begun}
 use Rattle.tally.specs.declared.Plates.{Plates}
 use Rattle.tally.specs.declared.Tallying.{Tallying}
 use Rattle.tally.specs.Answers.{TallyAnswer, tallyAnswer, rowCodes}
-use Rattle.search.specs.Found.{joinRows}
-use Rattle.search.specs.Inner.Turns.{allRows, rowsAfter, rowsIn}
+use Rattle.found.specs.Found.{joinRows}
+use Rattle.found.specs.Inner.Turns.{allRows, rowsAfter, rowsIn}
 use Rattle.tally.specs.Inner.Turns.{countedAll, tallyOf, NoneAbove, tallyLeft, TalliesOn}
-use Rattle.search.proofs.Answered.{all-none, all-is}
-use Rattle.search.proofs.Counts.{never}
-use Rattle.search.proofs.Matched.{closed-few, open-few}
-use Rattle.search.proofs.Segments.{rows-end, rows-damage, pass-facts, rows-pass, visit-facts, rows-visit}
+use Rattle.found.proofs.All.{all-none, all-is}
+use Rattle.found.proofs.Counts.{never}
+use Rattle.found.proofs.Matched.{closed-few, open-few}
+use Rattle.found.proofs.Segments.{rows-end, rows-damage, pass-facts, rows-pass, visit-facts, rows-visit}
 use Rattle.tally.proofs.Tallies.{none-zero, counted-none, tally-join, tally-few}
 
 abbrev plates : Bool → List ℕ → Plates

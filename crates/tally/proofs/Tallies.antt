@@ -4,7 +4,7 @@ use mathlib.Core.Path.{_≡_, refl, sym, ap, _∙_}
 use mathlib.Core.Bool.{Bool, true, false, cond, not}
 use mathlib.Core.Option.{Option, none, some}
 use mathlib.Core.List.{List, [], _∷_, _++_, map}
-use Prim.Native.Nat.{ℕ, zero, suc, _+_, _-_, _^_, _≤_, _<_}
+use Prim.Native.Nat.{ℕ, zero, suc, _+_, _^_, _≤_, _<_}
 use native.Mathlib.Omega.{arith}
 use lib.Dec.{eqb, ltb}
 use lib.ListN.{length, getD, set, replicate, length-set, length-map, List·getD-eq-default}
@@ -20,12 +20,12 @@ use Rattle.lift.specs.Record.{codeAt}
 use Rattle.plate.specs.Plate.{plateOf, countAt, countsOf, noCounts}
 use Rattle.plate.specs.Inner.Counted.{countedIn}
 use Rattle.plate.proofs.Counts.{count-append, count-small, length-counts, count-place}
-use Rattle.walk.proofs.Emptying.{emptied-more, emptied-all, emptied-below}
+use Rattle.visit.proofs.Emptying.{emptied-more, emptied-all, emptied-below}
 use Rattle.tally.specs.declared.Plates.{Plates}
 use Rattle.tally.specs.Answers.{rowCodes}
-use Rattle.search.specs.Found.{joinRows}
+use Rattle.found.specs.Found.{joinRows}
 use Rattle.tally.specs.Inner.Turns.{countedAll, tallyOf, NoneAbove}
-use Rattle.search.proofs.Matched.{FewIn}
+use Rattle.found.proofs.Matched.{FewIn}
 
 -- ---- counts, place by place
 

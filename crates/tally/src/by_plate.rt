@@ -4,10 +4,10 @@ use crate::Tallying;
 use bitset::Bits;
 use plate::PLATES;
 use sweep::Records;
-use walk::Closed;
+use visit::Closed;
+use visit::Log;
+use visit::Query;
 use walk::Cursor;
-use walk::Log;
-use walk::Query;
 use walk::Step;
 ghost use mathlib.Core.Path.{_≡_};
 ghost use mathlib.Core.Bool.{true, false};
@@ -20,9 +20,10 @@ ghost use Rattle.lift.specs.Rows.{codeIn};
 ghost use Rattle.plate.specs.Plate.{noCounts};
 ghost use Rattle.sweep.specs.Inner.Swept.{Recorded};
 ghost use Rattle.skiplist.specs.Skip.{serialsFrom};
-ghost use Rattle.walk.specs.Visit.{closedRows, openRows};
-ghost use Rattle.walk.specs.Inner.Sound.{Sound, ClosedSound, LogSound};
-ghost use Rattle.search.specs.Inner.Turns.{rowsAfter};
+ghost use Rattle.visit.specs.Visit.{closedRows, openRows};
+ghost use Rattle.visit.specs.Inner.Sound.{ClosedSound, LogSound};
+ghost use Rattle.walk.specs.Inner.Sound.{Sound};
+ghost use Rattle.found.specs.Inner.Turns.{rowsAfter};
 ghost use Rattle.tally.specs.Inner.Turns.{countedAll, tallyOf, NoneAbove, TalliesOn};
 
 // The counts with the lifts of a set, by plate.
@@ -77,14 +78,14 @@ pub fn tally_open(nand: &[u8], nor: &[u8], page: &[u8], g: Log, q: Query) -> Pla
             counts: none,
         };
     }
-    let m = walk::open_matches(nand, nor, page, g, q);
+    let m = visit::open_matches(nand, nor, page, g, q);
     let good = m.good;
     if !good {
         return no_plates();
     }
     let set = m.set;
-    let lifts = walk::open_lifts(nand, g);
-    let r = walk::open_records(g);
+    let lifts = visit::open_lifts(nand, g);
+    let r = visit::open_records(g);
     let counts = tally_set(lifts, page, r, set, none);
     Plates { good: true, counts }
 }
@@ -95,14 +96,14 @@ fn tally_one(nand: &[u8], s: Closed, q: Query, counts: [u64; PLATES]) -> Plates
     requires { ⌜ NoneAbove (2 ^ 63) counts ⌝ }
     ensures { λ r. ⌜ r ≡ tallyOf counts (closedRows (now (nand .entry)) s q) ⌝ }
 {
-    let m = walk::closed_matches(nand, s, q);
+    let m = visit::closed_matches(nand, s, q);
     let good = m.good;
     if !good {
         return no_plates();
     }
     let set = m.set;
-    let lifts = walk::closed_lifts(nand, s);
-    let g = walk::closed_records(s);
+    let lifts = visit::closed_lifts(nand, s);
+    let g = visit::closed_records(s);
     let more = tally_set(lifts, lifts, g, set, counts);
     Plates {
         good: true,

@@ -2,17 +2,17 @@
 mod by_plate;
 
 use flash::PAGE_BYTES;
+use found::DAMAGE;
 use plate::PLATES;
-use search::DAMAGE;
+use visit::Log;
+use visit::Query;
 use walk::Cursor;
-use walk::Log;
-use walk::Query;
 ghost use mathlib.Core.Path.{_≡_};
 ghost use Prim.Native.Nat.{_≤_};
 ghost use Rattle.plate.specs.Plate.{noCounts};
 ghost use Rattle.skiplist.specs.Skip.{serialsFrom};
-ghost use Rattle.walk.specs.Inner.Sound.{LogSound};
-ghost use Rattle.search.specs.Found.{foundRows};
+ghost use Rattle.visit.specs.Inner.Sound.{LogSound};
+ghost use Rattle.found.specs.Found.{foundRows};
 ghost use Rattle.tally.specs.Answers.{TallyAnswer, tallyAnswer};
 
 // The number, and 21 counts.

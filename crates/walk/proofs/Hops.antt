@@ -3,7 +3,7 @@
 use mathlib.Core.Path.{_≡_, refl, sym, ap, _∙_}
 use mathlib.Core.Bool.{Bool, true, false, cond, not, _&&_, _||_}
 use mathlib.Core.List.{List, [], _∷_}
-use Prim.Native.Nat.{ℕ, zero, suc, _+_, _-_, _*_, _≤_, _<_}
+use Prim.Native.Nat.{ℕ, zero, suc, _+_, _*_, _≤_, _<_}
 use native.Mathlib.Omega.{arith}
 use lib.Dec.{eqb, ltb, leb}
 use lib.ListN.{length, getD}
@@ -13,15 +13,16 @@ use Rattle.flash.specs.Chip.{pageOf}
 use Rattle.skiplist.specs.declared.Pointer.{Pointer}
 use Rattle.form.specs.declared.Form.{Form}
 use Rattle.skiplist.specs.Skip.{Live, ageOf, none, isNone, isLive, inSlots}
-use Rattle.segment.specs.declared.Header.{Header}
-use Rattle.segment.specs.Header.{headerIn}
-use Rattle.segment.proofs.HeaderFacts.{HeaderFacts, header-facts, good-slots}
+use Rattle.header.specs.declared.Header.{Header}
+use Rattle.header.specs.Header.{headerIn}
+use Rattle.header.proofs.HeaderFacts.{HeaderFacts, header-facts, good-slots}
+use Rattle.visit.specs.declared.Log.{Log}
+use Rattle.visit.specs.declared.Query.{Query}
+use Rattle.visit.specs.Inner.Sound.{InSlots}
 use Rattle.walk.specs.declared.Cursor.{Cursor}
-use Rattle.walk.specs.declared.Log.{Log}
-use Rattle.walk.specs.declared.Query.{Query}
 use Rattle.walk.specs.declared.SkipWalk.{SkipWalk}
 use Rattle.walk.specs.Seek.{headerAt, hopAt, hop, hops, skipWalk, reachedBy, isLast, startOf}
-use Rattle.walk.specs.Inner.Sound.{InSlots, Begun}
+use Rattle.walk.specs.Inner.Sound.{Begun}
 
 -- what stands in a list does not hang on the default
 pub same-default : {A : Type 0} (l : List A) (k : ℕ) (d e : A) → k < length l → getD l k d ≡ getD l k e

@@ -13,16 +13,17 @@ use Rattle.bloom.specs.Bloom.{mayHold}
 use Rattle.bloom.specs.Pages.{sectionCount, sectionsIn}
 use Rattle.skiplist.specs.declared.Pointer.{Pointer}
 use Rattle.skiplist.specs.Skip.{Live, none, isLive}
-use Rattle.segment.specs.declared.Header.{Header}
-use Rattle.segment.specs.Header.{headerIn}
-use Rattle.segment.proofs.HeaderFacts.{HeaderFacts, good-slots}
+use Rattle.header.specs.declared.Header.{Header}
+use Rattle.header.specs.Header.{headerIn}
+use Rattle.header.proofs.HeaderFacts.{HeaderFacts, good-slots}
+use Rattle.visit.specs.declared.Query.{Query}
+use Rattle.visit.specs.Inner.Sound.{ClosedSound}
 use Rattle.walk.specs.declared.Cursor.{Cursor}
-use Rattle.walk.specs.declared.Query.{Query}
 use Rattle.walk.specs.declared.Step.{Step}
 use Rattle.walk.specs.declared.Step.the-variants.{End, Damage, Pass, Visit}
 use Rattle.walk.specs.Seek.{headerAt, isLast}
-use Rattle.walk.specs.Visit.{isPassed, cursorAfter, closedOf, advanceOf}
-use Rattle.walk.specs.Inner.Sound.{Sound, ClosedSound}
+use Rattle.walk.specs.Advance.{isPassed, cursorAfter, closedOf, advanceOf}
+use Rattle.walk.specs.Inner.Sound.{Sound}
 use Rattle.walk.proofs.Hops.{header-good, live-inside}
 
 -- ---- whether a segment is passed over

@@ -1,3 +1,3 @@
 pub mod Seek
-pub mod Visit
+pub mod Advance
 pub mod Inner

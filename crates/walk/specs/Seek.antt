@@ -10,11 +10,11 @@ use Rattle.skiplist.specs.declared.Pointer.{Pointer}
 use Rattle.form.specs.declared.Form.{Form}
 use Rattle.form.specs.declared.Form.the-variants.{Old, New}
 use Rattle.skiplist.specs.Skip.{Live, none, isLive, levels}
-use Rattle.segment.specs.declared.Header.{Header}
-use Rattle.segment.specs.Header.{headerIn}
+use Rattle.header.specs.declared.Header.{Header}
+use Rattle.header.specs.Header.{headerIn}
+use Rattle.visit.specs.declared.Log.{Log}
+use Rattle.visit.specs.declared.Query.{Query}
 use Rattle.walk.specs.declared.Cursor.{Cursor}
-use Rattle.walk.specs.declared.Log.{Log}
-use Rattle.walk.specs.declared.Query.{Query}
 use Rattle.walk.specs.declared.SkipWalk.{SkipWalk}
 
 -- the header that a pointer leads to; its serial is to be below the one before

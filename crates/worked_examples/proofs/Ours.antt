@@ -24,12 +24,12 @@ use Rattle.tree.specs.Plan.{planFrom, planOn}
 use Rattle.tree.specs.Writes.{writesOf, allClear, allWritten}
 use Rattle.bounds.specs.Bounds.{serialsOk, countsOk, timesOk, spanOk, loadsOk}
 use Rattle.bounds.specs.Grounds.{formatGround, liftGround, queryGround}
-use Rattle.segment.specs.Header.{countBytes, spanBytes, headerPage}
-use Rattle.segment.specs.Header.{countsGood, spanGood, pointerGood, pointersGood, headerGood, headerIn}
+use Rattle.header.specs.Header.{countBytes, spanBytes, headerPage}
+use Rattle.header.specs.Header.{countsGood, spanGood, pointerGood, pointersGood, headerGood, headerIn}
 use Rattle.segment.specs.Pages.{pageDue, pagesErased, treePage}
 use Rattle.walk.specs.Seek.{hopAt, hops, skipWalk}
 use Rattle.search.specs.Answers.{rowBytes, searchAnswer}
-use Rattle.state_bytes.specs.Signed.{unsigned, sideBySide, loadBytes}
+use Rattle.loads.specs.Signed.{unsigned, sideBySide, loadBytes}
 use Rattle.state_bytes.specs.StateBytes.{bytesIn, stateBytes, oldStateBytes}
 use Rattle.store.specs.Bounds.{headsOk, withinBounds}
 use Rattle.store.specs.World.{closing}

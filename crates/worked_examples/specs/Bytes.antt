@@ -16,8 +16,8 @@ use Rattle.form.specs.declared.Form.the-variants.{Old, New}
 use Rattle.skiplist.specs.declared.Pointer.{Pointer}
 use Rattle.skiplist.specs.Skip.{levelOf, nodeOf, headsAfter}
 use Rattle.skiplist.specs.PointerBytes.{pointerBytes, pointersBytes, pointersAt}
-use Rattle.segment.specs.declared.Header.{Header}
-use Rattle.segment.specs.Header.{headerPage, headerIn}
+use Rattle.header.specs.declared.Header.{Header}
+use Rattle.header.specs.Header.{headerPage, headerIn}
 use Rattle.segment.specs.Pages.{treePage}
 use Rattle.search.specs.Answers.{searchAnswer}
 use Rattle.tree.specs.Rules.{Entry, Kids, whole, split, Bucket}

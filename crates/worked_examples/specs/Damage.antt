@@ -9,7 +9,7 @@ use lib.ListN.{replicate}
 use Rattle.codec.specs.Area.{splice}
 use Rattle.lift.specs.Rows.{codeIn}
 use Rattle.form.specs.declared.Form.the-variants.{Old, New}
-use Rattle.segment.specs.Header.{headerGood}
+use Rattle.header.specs.Header.{headerGood}
 use Rattle.tree.specs.Reading.{nodeIn, nodeGood}
 use Rattle.tree.specs.Sweep.{sweepOn}
 use Rattle.tree.specs.Plan.{Plan, newRoot, intoBucket, newChild, splitBucket}

@@ -1,7 +1,7 @@
 -- `carried_header`: the kept fields and the pointers in a page of zeros.
 use mathlib.Core.Path.{ap, _∙_}
 use Rattle.skiplist.specs.PointerBytes.{pointersAt}
-use Rattle.segment.proofs.HeaderBytes.{serial-most}
+use Rattle.header.proofs.HeaderBytes.{serial-most}
 use Rattle.carry.specs.Carried.{pointersInto}
 use Rattle.carry.proofs.Carrying.{header-put}
 use native.Mathlib.Omega.{arith}

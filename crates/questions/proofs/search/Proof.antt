@@ -5,7 +5,7 @@ use mir.Syntax.{w32}
 use mir.ValLaws.{toZ-ofZ}
 use Rattle.lift.specs.Limits.{loadOk, stored}
 use Rattle.lift.proofs.Codes.{within-limits}
-use Rattle.walk.specs.Inner.Sound.{LogSound}
+use Rattle.visit.specs.Inner.Sound.{LogSound}
 use Rattle.questions.proofs.Asked.{Asked, asked, search-refused, search-done}
 use native.Mathlib.Omega.{arith}
 use borrow.Author.Needs.{needs}

@@ -4,7 +4,7 @@ use lib.IntN.{pos, negsuc}
 use lib.ListN.{length}
 use Rattle.tally.specs.Answers.{TallyAnswer}
 use Rattle.tally.specs.declared.Tally.{Tally}
-use Rattle.walk.specs.Inner.Sound.{LogSound}
+use Rattle.visit.specs.Inner.Sound.{LogSound}
 use Rattle.questions.proofs.Asked.{Asked, asked, tally-refused, tally-done}
 use native.Mathlib.Omega.{arith}
 use borrow.Author.Needs.{needs}

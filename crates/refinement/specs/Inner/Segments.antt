@@ -14,8 +14,8 @@ use Rattle.bloom.specs.Pages.{each, segmentSections, fiveSections, bloomPage}
 use Rattle.skiplist.specs.declared.Pointer.{Pointer}
 use Rattle.form.specs.declared.Form.{Form}
 use Rattle.skiplist.specs.Skip.{pointing, levelOf, headsAfter}
-use Rattle.segment.specs.declared.Closing.{Closing}
-use Rattle.segment.specs.Header.{headerPage}
+use Rattle.header.specs.declared.Closing.{Closing}
+use Rattle.header.specs.Header.{headerPage}
 use Rattle.tree.specs.Rules.{bucketsOf}
 use Rattle.tree.specs.Bytes.{treeBytes}
 use Rattle.search.specs.Answers.{rowBytes}

@@ -3,9 +3,10 @@ use mathlib.Core.Path.{_≡_, refl, ap, _∙_}
 use lib.ListN.{length}
 use borrow.Author.Tests.{not-true, not-false}
 use Rattle.skiplist.specs.Skip.{serialsFrom}
+use Rattle.found.specs.Inner.Turns.{allRows}
+use Rattle.found.proofs.All.{begun-at, found-is}
 use Rattle.search.specs.Answers.{searchAnswer}
-use Rattle.search.specs.Inner.Turns.{allRows}
-use Rattle.search.proofs.Answered.{begun-at, found-is, counted-is, answer-damage, answer-small, answer-found}
+use Rattle.search.proofs.Answered.{counted-is, answer-damage, answer-small, answer-found}
 use borrow.Author.Needs.{needs}
 use native.Mathlib.Omega.{arith}
 use Rattle.search.proofs.search_in.Statement.{statement}

@@ -2,7 +2,7 @@
 use mathlib.Core.Path.{refl}
 use native.Mathlib.Omega.{arith}
 use Rattle.codec.proofs.Areas.{part-from}
-use Rattle.segment.proofs.HeaderBytes.{tree-put}
+use Rattle.segment.proofs.TreeRun.{tree-put}
 use borrow.Author.Needs.{needs}
 use Rattle.segment.proofs.tree_page.Statement.{statement}
 use Rattle.segment.proofs.tree_page.Tie as tie

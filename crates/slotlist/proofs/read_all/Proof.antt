@@ -1,5 +1,5 @@
 -- `slotlist::read_all` keeps the line within its 48 bytes, and the areas as long as they were.
-use mathlib.Core.Path.{_≡_, _∙_}
+use mathlib.Core.Path.{_≡_}
 use Prim.Native.Nat.{_≤_}
 use lib.ListN.{length}
 use borrow.Author.Needs.{needs}

@@ -1,6 +1,6 @@
 -- `state_bytes::get_old_state` meets its contract, field by field.
 use Rattle.form.specs.declared.Form.the-variants.{Old}
-use Rattle.state_bytes.proofs.Signs.{read-back}
+use Rattle.loads.proofs.Signs.{read-back}
 use Rattle.state_bytes.proofs.Reading.{read, old-read}
 use borrow.Author.Needs.{needs}
 use Rattle.state_bytes.proofs.get_old_state.Statement.{statement}

@@ -1,7 +1,7 @@
 -- `state_bytes::get_state` meets its contract, field by field.
 use Rattle.form.specs.declared.Form.the-variants.{New}
 use Rattle.state_bytes.specs.StateBytes.{stateIn}
-use Rattle.state_bytes.proofs.Signs.{read-back}
+use Rattle.loads.proofs.Signs.{read-back}
 use Rattle.state_bytes.proofs.Reading.{read}
 use borrow.Author.Needs.{needs}
 use Rattle.state_bytes.proofs.get_state.Statement.{statement}

@@ -1,7 +1,7 @@
 -- `state_bytes::put_fields` meets its contract: the page buffer, then the fields around it.
 use denote.Struct.Field.{u8-field}
 use mathlib.Core.Path.{refl}
-use Rattle.state_bytes.proofs.Signs.{read-back}
+use Rattle.loads.proofs.Signs.{read-back}
 use Rattle.state_bytes.proofs.Writing.{fields-written, field-length}
 use native.Mathlib.Omega.{arith}
 use borrow.Author.Needs.{needs}

@@ -1,19 +1,15 @@
--- The fields of a state in the groups that the code writes, and a lift written straight into the area. Assumes nothing.
+-- The fields of a state in the groups that the code writes. Assumes nothing.
 use mathlib.Core.List.{List, _++_}
-use Prim.Native.Nat.{ℕ, _+_, _*_, _%_}
+use Prim.Native.Nat.{ℕ}
 use lib.IntN.{ℤ}
-use Rattle.codec.specs.Area.{splice}
 use Rattle.codec.specs.Number.{bytes}
-use Rattle.lift.specs.Record.{recordBytes}
-use Rattle.bloom.specs.Bloom.{noted}
 use Rattle.form.specs.declared.Form.{Form}
 use Rattle.skiplist.specs.declared.Pointer.{Pointer}
 use Rattle.skiplist.specs.PointerBytes.{pointersBytes}
 use Rattle.store.specs.declared.State.{State}
-use Rattle.store.specs.World.{stateGiven}
-use Rattle.state_bytes.specs.declared.Counters.{Counters}
-use Rattle.state_bytes.specs.declared.Span.{Span}
-use Rattle.state_bytes.specs.Signed.{loadBytes, loadsBytes}
+use Rattle.state_bytes.specs.declared.pieces.Counters.{Counters}
+use Rattle.state_bytes.specs.declared.pieces.Span.{Span}
+use Rattle.loads.specs.Signed.{loadBytes, loadsBytes}
 
 -- those before the heads that both forms have, and those behind the buffers
 abbrev pub countersOf : State → Counters
@@ -39,8 +35,3 @@ spanBytes s = bytes 8 (s .start) ++ loadBytes (s .low) ++ loadBytes (s .high)
 unfoldable pub fieldsBytes : Form → List ℕ → Counters → List Pointer → List ℤ → List ℕ → List ℕ → Span → List ℕ
 fieldsBytes f live c heads loads page section s =
     (((((countersBytes c ++ live) ++ pointersBytes f heads) ++ loadsBytes loads) ++ page) ++ section) ++ spanBytes s
-
--- a state with a lift that fills no page, its bucket count given
-unfoldable pub withLift : State → ℕ → ℕ → ℤ → List ℕ → ℕ → State
-withLift s time code load note buckets =
-    stateGiven s time load time buckets (splice (s .page) (s .count % 16 * 32) (recordBytes time code note)) (noted (s .bloom) code)

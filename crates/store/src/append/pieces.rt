@@ -1,7 +1,6 @@
 // The pieces of an append that the calls over byte areas share with it: the plan with its grounds, the test for an ordinary lift, and the
 // carrying out. They are no calls: the last two ask what their callers show.
 use crate::State;
-use crate::parts;
 use grow::Plan;
 use lift::NOTE_BYTES;
 ghost use mathlib.Core.Path.{_≡_};
@@ -46,9 +45,9 @@ pub fn is_plain(s: State, slots: u64, p: Plan) -> bool
     requires { ⌜ s .oldest ≤ s .current ⌝ }
     ensures { λ r. ⌜ r ≡ isPlain s slots (meaning p) ⌝ }
 {
-    let full = parts::is_full(p);
+    let full = append_parts::is_full(p);
     let drops = s.drops_first(slots);
-    !((full | drops) | (s.count as usize % lift::LIFTS_PER_PAGE == parts::LAST_IN_PAGE))
+    !((full | drops) | (s.count as usize % lift::LIFTS_PER_PAGE == append_parts::LAST_IN_PAGE))
 }
 
 // Room for the lift, then the lift.

@@ -37,12 +37,12 @@ same-length-3 c = search needs
 returns-3 : tie.Need-returns-3
 unfolding backwardCalled
 returns-3 c =
-    let a = c .before .before .before .before .before .before .before .before .before .before .before .before .before .before .before .before .before .before .before .before .args in
+    let a = c .before .before .before .before .before .before .before .before .before .before .before .before .before .before .before .before .before .before .before .before .before .args in
     let kept = c .before .before .keep-old-state .ensures in
     fitting _ oldBytes (a .old .now) _ _ _ _ _ _ _
-    (both-equal _ 783 _ 775 (c .before .before .before .before .before .before .before .before .before .before .before .before .before .if1 .left) (c .before .before .before .before .before .before .before .before .before .before .before .before .if2 .left)) (kept .0) (kept .1)
-    (c .before .before .before .before .before .before .before .before .backward .ensures
-    ∙ ap (λ s. backwardOutcome (a .nand .now) (a .nor .now) s (a .slots) (a .to-nand .now) (a .to-nor .now)) (c .before .before .before .before .before .before .before .before .before .before .before .get-state .ensures))
+    (both-equal _ 783 _ 775 (c .before .before .before .before .before .before .before .before .before .before .before .before .before .before .if1 .left) (c .before .before .before .before .before .before .before .before .before .before .before .before .before .if2 .left)) (kept .0) (kept .1)
+    (c .before .before .before .before .before .before .before .before .before .backward .ensures
+    ∙ ap (λ s. backwardOutcome (a .nand .now) (a .nor .now) s (a .slots) (a .to-nand .now) (a .to-nor .now)) (c .before .before .before .before .before .before .before .before .before .before .before .before .get-state .ensures))
 
 pub store-backward-spec : {M : Type 1} → statement M
 store-backward-spec =

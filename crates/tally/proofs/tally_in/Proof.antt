@@ -4,7 +4,7 @@ use lib.ListN.{length}
 use Rattle.skiplist.specs.Skip.{serialsFrom}
 use Rattle.tally.specs.declared.Tally.{Tally}
 use Rattle.tally.specs.Answers.{TallyAnswer, tallyAnswer}
-use Rattle.search.proofs.Answered.{begun-at, found-is}
+use Rattle.found.proofs.All.{begun-at, found-is}
 use Rattle.tally.proofs.PlateTurns.{first-few, tally-none, tally-spoilt, tally-counts}
 use borrow.Author.Needs.{needs}
 use Rattle.tally.proofs.tally_in.Statement.{statement}

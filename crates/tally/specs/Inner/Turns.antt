@@ -8,9 +8,9 @@ use lib.ListN.{getD}
 use Rattle.plate.specs.Plate.{noCounts}
 use Rattle.plate.specs.Inner.Counted.{countedIn}
 use Rattle.skiplist.specs.Skip.{Live}
-use Rattle.walk.specs.declared.Query.{Query}
+use Rattle.visit.specs.declared.Query.{Query}
 use Rattle.walk.specs.Inner.Sound.{Sound}
-use Rattle.search.specs.Inner.Turns.{rowsAfter}
+use Rattle.found.specs.Inner.Turns.{rowsAfter}
 use Rattle.tally.specs.declared.Plates.{Plates}
 use Rattle.tally.specs.declared.Tallying.{Tallying}
 use Rattle.tally.specs.Answers.{rowCodes}

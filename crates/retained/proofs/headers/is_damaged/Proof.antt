@@ -1,5 +1,5 @@
 -- `is_damaged`: byte 10, the header and its serial.
-use Rattle.segment.specs.Header.{headerIn}
+use Rattle.header.specs.Header.{headerIn}
 use borrow.Author.Needs.{needs}
 use Rattle.retained.proofs.headers.is_damaged.Statement.{statement}
 use Rattle.retained.proofs.headers.is_damaged.Tie as tie

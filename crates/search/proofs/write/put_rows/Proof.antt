@@ -7,7 +7,7 @@ use borrow.Author.Tests.{not-true, not-false}
 use Rattle.codec.specs.Area.{splice}
 use Rattle.bitset.specs.Inner.Words.{members}
 use Rattle.lift.specs.Rows.{recordIn}
-use Rattle.walk.proofs.Emptying.{recorded-at, emptied-less}
+use Rattle.visit.proofs.Emptying.{recorded-at, emptied-less}
 use Rattle.search.specs.Answers.{rowBytes}
 use Rattle.search.proofs.Written.{Puts, puts-over, puts-below, puts-room, puts-more}
 use borrow.Author.Needs.{needs}

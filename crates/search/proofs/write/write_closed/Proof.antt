@@ -2,7 +2,8 @@
 use mathlib.Core.Path.{refl, _∙_}
 use lib.ListN.{length}
 use Rattle.skiplist.specs.Skip.{serialsFrom}
-use Rattle.search.specs.Inner.Turns.{rowsAfter, writtenIn}
+use Rattle.found.specs.Inner.Turns.{rowsAfter}
+use Rattle.search.specs.Inner.Turns.{writtenIn}
 use Rattle.search.proofs.Written.{WriteGoes, write-again, write-over}
 use Rattle.search.proofs.write.write_closed.Statement.{statement}
 use Rattle.search.proofs.write.write_closed.Tie as tie

@@ -1,7 +1,7 @@
 -- `search::write::write_on` meets its contract: the end, no damage, a segment passed over, a segment written.
 use mathlib.Core.Path.{sym, _∙_}
 use Rattle.skiplist.specs.Skip.{serialsFrom}
-use Rattle.search.proofs.Segments.{visit-facts}
+use Rattle.found.proofs.Segments.{visit-facts}
 use Rattle.search.proofs.Written.{write-end, write-damage, write-pass, visit-fits, write-visit}
 use borrow.Author.Needs.{needs}
 use Rattle.search.proofs.write.write_on.Statement.{statement}

@@ -1,6 +1,7 @@
 -- `search::write::write_one` meets its contract: as many rows as the set has places, up to the end.
 use mathlib.Core.Path.{refl}
-use Rattle.search.proofs.Placed.{placed-many, placed-written, closed-placed}
+use Rattle.found.proofs.Placed.{closed-placed}
+use Rattle.search.proofs.Written.{placed-many, placed-written}
 use borrow.Author.Needs.{needs}
 use native.Mathlib.Omega.{arith}
 use Rattle.search.proofs.write.write_one.Statement.{statement}

@@ -1,8 +1,8 @@
 -- `search::write::write_open` meets its contract: no lifts, or as many rows as the set has places, up to the end.
 use mathlib.Core.Path.{refl}
-use Rattle.search.proofs.Matched.{open-none}
-use Rattle.search.proofs.Written.{written-none}
-use Rattle.search.proofs.Placed.{placed-many, placed-written, open-placed}
+use Rattle.found.proofs.Matched.{open-none}
+use Rattle.found.proofs.Placed.{open-placed}
+use Rattle.search.proofs.Written.{written-none, placed-many, placed-written}
 use borrow.Author.Needs.{needs}
 use native.Mathlib.Omega.{arith}
 use Rattle.search.proofs.write.write_open.Statement.{statement}

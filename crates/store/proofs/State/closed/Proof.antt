@@ -1,6 +1,6 @@
 use Rattle.store.specs.World.{closing}
 use mathlib.Core.Path.{ap}
-use Rattle.segment.specs.declared.Closing.{Closing}
+use Rattle.header.specs.declared.Closing.{Closing}
 -- `closed`: the pages are programmed, NOR is erased, the next serial opens.
 use Rattle.store.proofs.Steps.{closed-made}
 use Rattle.store.proofs.Grounds.{standing}

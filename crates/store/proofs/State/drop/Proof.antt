@@ -1,5 +1,5 @@
 -- `drop`: a refusal for each test, else the oldest closed segment is erased.
-use mathlib.Core.Path.{_≡_, sym, _∙_}
+use mathlib.Core.Path.{_≡_}
 use Rattle.store.proofs.Outcomes.{drop-bounds, drop-none, drop-done}
 use Rattle.store.proofs.Grounds.{standing-judged}
 use native.Mathlib.Omega.{arith}

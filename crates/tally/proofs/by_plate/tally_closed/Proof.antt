@@ -1,6 +1,6 @@
 -- `tally::by_plate::tally_closed` meets its contract: what is counted and what is left come to the whole.
 use Rattle.skiplist.specs.Skip.{serialsFrom}
-use Rattle.search.specs.Inner.Turns.{rowsAfter}
+use Rattle.found.specs.Inner.Turns.{rowsAfter}
 use Rattle.tally.specs.Inner.Turns.{tallyOf}
 use Rattle.tally.proofs.PlateTurns.{TallyGoes, tally-starts, tally-room, tally-again, tally-over}
 use native.Mathlib.Omega.{arith}

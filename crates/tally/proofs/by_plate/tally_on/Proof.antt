@@ -2,7 +2,7 @@
 use mathlib.Core.Path.{sym, _∙_}
 use Rattle.skiplist.specs.Skip.{serialsFrom}
 use Rattle.tally.proofs.PlateTurns.{tally-end, tally-damage, tally-pass, tally-visit}
-use Rattle.search.proofs.Segments.{visit-facts}
+use Rattle.found.proofs.Segments.{visit-facts}
 use borrow.Author.Needs.{needs}
 use Rattle.tally.proofs.by_plate.tally_on.Statement.{statement}
 use Rattle.tally.proofs.by_plate.tally_on.Tie as tie

@@ -2,8 +2,8 @@
 use mathlib.Core.Path.{refl, sym, ap, _∙_}
 use borrow.Author.Tests.{not-true, not-false}
 use Rattle.tally.specs.Inner.Turns.{tallyOf}
-use Rattle.search.proofs.Matched.{closed-none, closed-some}
-use Rattle.search.proofs.Placed.{closed-placed}
+use Rattle.found.proofs.Matched.{closed-none, closed-some}
+use Rattle.found.proofs.Placed.{closed-placed}
 use Rattle.tally.proofs.Codes.{placed-codes}
 use Rattle.tally.proofs.PlateTurns.{tally-some}
 use borrow.Author.Needs.{needs}

@@ -5,8 +5,8 @@ use mathlib.Core.List.{List}
 use Prim.Native.Nat.{ℕ}
 use borrow.Author.Tests.{not-true, not-false}
 use Rattle.tally.specs.Inner.Turns.{countedAll, tallyOf}
-use Rattle.search.proofs.Matched.{open-none, open-damage, open-good}
-use Rattle.search.proofs.Placed.{open-placed}
+use Rattle.found.proofs.Matched.{open-none, open-damage, open-good}
+use Rattle.found.proofs.Placed.{open-placed}
 use Rattle.tally.proofs.Codes.{placed-codes}
 use Rattle.tally.proofs.PlateTurns.{tally-some}
 use Rattle.tally.proofs.Tallies.{none-zero}

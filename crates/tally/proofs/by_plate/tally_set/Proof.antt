@@ -9,7 +9,7 @@ use Rattle.bitset.specs.Inner.Words.{members}
 use Rattle.lift.specs.Limits.{loadOf}
 use Rattle.lift.specs.Rows.{codeIn}
 use Rattle.plate.proofs.Bands.{plate-small}
-use Rattle.walk.proofs.Emptying.{recorded-at, emptied-less}
+use Rattle.visit.proofs.Emptying.{recorded-at, emptied-less}
 use Rattle.tally.specs.Inner.Turns.{countedAll}
 use Rattle.tally.proofs.Tallies.{SetTally, set-first, set-over, set-below, set-more}
 use borrow.Author.Needs.{needs}

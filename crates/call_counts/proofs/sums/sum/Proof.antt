@@ -1,0 +1,66 @@
+-- Places stay below 26.
+use Prim.Native.Nat.{_-_, _≤_}
+use borrow.Author.Needs.{needs}
+use Rattle.call_counts.proofs.sums.sum.Statement.{statement}
+use Rattle.call_counts.proofs.sums.sum.Tie as tie
+
+abbrev Inv-loop : tie.InvT-loop
+Inv-loop n₀ m i₀ n i = i ≤ 26
+
+abbrev μ-loop : tie.MeasureT-loop
+μ-loop n₀ m i₀ n i = 26 - i
+
+loop-holds : tie.Need-loop-holds Inv-loop μ-loop
+loop-holds c = search needs
+
+mul-plus : tie.Need-mul-plus Inv-loop μ-loop
+mul-plus c = search needs
+
+array-read-plus : tie.Need-array-read-plus Inv-loop μ-loop
+array-read-plus c = search needs
+
+mul-plus-2 : tie.Need-mul-plus-2 Inv-loop μ-loop
+mul-plus-2 c = search needs
+
+array-read-plus-2 : tie.Need-array-read-plus-2 Inv-loop μ-loop
+array-read-plus-2 c = search needs
+
+plus-requires : tie.Need-plus-requires Inv-loop μ-loop
+plus-requires c κs = search needs
+
+mul-n : tie.Need-mul-n Inv-loop μ-loop
+mul-n c = search needs
+
+array-write-n : tie.Need-array-write-n Inv-loop μ-loop
+array-write-n c = search needs
+
+add-i : tie.Need-add-i Inv-loop μ-loop
+add-i c = search needs
+
+loop-less : tie.Need-loop-less Inv-loop μ-loop
+loop-less c = search needs
+
+loop-again : tie.Need-loop-again Inv-loop μ-loop
+loop-again c = search needs
+
+returns : tie.Need-returns Inv-loop μ-loop
+returns c = search needs
+
+pub sum-spec : {M : Type 1} → statement M
+sum-spec =
+    tie.close
+    (tie.spec
+    Inv-loop
+    μ-loop
+    loop-holds
+    mul-plus
+    array-read-plus
+    mul-plus-2
+    array-read-plus-2
+    plus-requires
+    mul-n
+    array-write-n
+    add-i
+    loop-less
+    loop-again
+    returns)

@@ -1,0 +1,74 @@
+// What a call over byte areas leaves in its caller's areas: written if the call was accepted, else as it was. A state has 783 bytes, 775
+// in form 0, the other answers are 8-byte numbers.
+use plate::PLATES;
+use store::Answer;
+use store::OldState;
+ghost use mathlib.Core.Path.{_≡_};
+ghost use Prim.Native.Nat.{_*_};
+ghost use lib.ListN.{length};
+ghost use Rattle.form.specs.declared.Form.the-variants.{Old, New};
+ghost use Rattle.codec.specs.Number.{bytes};
+ghost use Rattle.plate.specs.Plate.{plates};
+ghost use Rattle.loads.specs.Signed.{sideBySide};
+ghost use Rattle.state_bytes.specs.StateBytes.{stateBytes, oldStateBytes, areaLength};
+ghost use Rattle.kept.specs.Kept.{kept};
+
+// A count, or a plate.
+pub const NUMBER_BYTES: usize = 8;
+
+// The next state goes into its area if the call was accepted.
+pub fn keep_state(area: &mut [u8], a: Answer) -> u8
+    requires { ⌜ length (now area) ≡ areaLength New ⌝ }
+    ensures number { λ r. ⌜ r ≡ a .number ⌝ }
+    ensures state { λ _. ⌜ now (area .exit) ≡ kept (a .number) (stateBytes (a .state)) (now (area .entry)) ⌝ }
+{
+    if a.number == 0 {
+        let s = a.state;
+        state_bytes::put_state(area, s);
+    }
+    a.number
+}
+
+// The same for a state of form 0.
+pub fn keep_old_state(area: &mut [u8], n: u8, s: OldState) -> u8
+    requires { ⌜ length (now area) ≡ areaLength Old ⌝ }
+    ensures number { λ r. ⌜ r ≡ n ⌝ }
+    ensures state { λ _. ⌜ now (area .exit) ≡ kept n (oldStateBytes s) (now (area .entry)) ⌝ }
+{
+    if n == 0 {
+        state_bytes::put_old_state(area, s);
+    }
+    n
+}
+
+// A number goes into the area of the answer if the call was accepted.
+pub fn keep_number(answer: &mut [u8], number: u8, value: u64)
+    requires { ⌜ length (now answer) ≡ 8 ⌝ }
+    ensures { λ _. ⌜ now (answer .exit) ≡ kept number (bytes 8 value) (now (answer .entry)) ⌝ }
+{
+    if number == 0 {
+        codec::put_u64(answer, 0, value);
+    }
+}
+
+fn put_counts(answer: &mut [u8], counts: [u64; PLATES])
+    requires { ⌜ length (now answer) ≡ 8 * plates ⌝ }
+    ensures { λ _. ⌜ now (answer .exit) ≡ sideBySide (bytes 8) counts ⌝ }
+{
+    let mut i: usize = 0;
+    while i < plate::PLATES {
+        let n = counts[i];
+        codec::put_u64(answer, NUMBER_BYTES * i, n);
+        i += 1;
+    }
+}
+
+// The counts go into the area of the answer if the tally was accepted.
+pub fn keep_counts(answer: &mut [u8], number: u8, counts: [u64; PLATES])
+    requires { ⌜ length (now answer) ≡ 8 * plates ⌝ }
+    ensures { λ _. ⌜ now (answer .exit) ≡ kept number (sideBySide (bytes 8) counts) (now (answer .entry)) ⌝ }
+{
+    if number == 0 {
+        put_counts(answer, counts);
+    }
+}

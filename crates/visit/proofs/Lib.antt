@@ -1,0 +1,3 @@
+pub mod Emptying
+pub mod Matched
+pub mod Areas
