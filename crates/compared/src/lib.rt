@@ -3,13 +3,13 @@ use dice::answers;
 use dice::answers::Listed;
 use dice::calls;
 use dice::calls::Call;
+use lift::RECORD_BYTES;
 use plain_list::PlainLog;
 use plain_list::Query;
 use plate::PLATES;
 use store::Answer;
 use store::State;
 
-const ROW_BYTES: usize = 32;
 // In a row: the load after the time, and the note after the load.
 const CODE_AT: usize = 8;
 
@@ -93,23 +93,23 @@ fn less(a: usize, b: usize) -> usize {
 
 // The bytes of the result area, by the call's choice.
 fn room(choice: u64, found: u32) -> usize {
-    let exact = (found as usize) * ROW_BYTES;
+    let exact = (found as usize) * RECORD_BYTES;
     match choice {
         1 => exact,
-        2 => less(exact, ROW_BYTES),
+        2 => less(exact, RECORD_BYTES),
         3 => less(exact, 1),
-        4 => exact + ROW_BYTES - 1,
+        4 => exact + RECORD_BYTES - 1,
         _ => AREA_BYTES,
     }
 }
 
 fn row_agrees(area: &[u8], row: u32, time: u64, code: u64, number: u64) -> bool {
-    let at = (row as usize) * ROW_BYTES;
-    if area.len() < at + ROW_BYTES {
+    let at = (row as usize) * RECORD_BYTES;
+    if area.len() < at + RECORD_BYTES {
         return false;
     }
     let mut j: usize = 0;
-    while j < ROW_BYTES {
+    while j < RECORD_BYTES {
         if area[at + j] != record_byte(time, code, number, j) {
             return false;
         }

@@ -125,12 +125,12 @@ pub fn code_in(lifts: &[u8], tail: &[u8], first: usize, p: usize) -> u32
     record_code(tail, (p - first) * RECORD_BYTES)
 }
 
-// The 32 bytes from `at`.
-fn record_at(s: &[u8], at: usize) -> [u8; 32]
+// The record's bytes from `at`.
+fn record_at(s: &[u8], at: usize) -> [u8; RECORD_BYTES]
     requires { ⌜ at + recordWidth ≤ length (now s) ⌝ }
-    ensures { λ r. ⌜ r ≡ part (now (s .entry)) at 32 ⌝ }
+    ensures { λ r. ⌜ r ≡ part (now (s .entry)) at recordWidth ⌝ }
 {
-    let mut r = [0u8; 32];
+    let mut r = [0u8; RECORD_BYTES];
     let e = at + RECORD_BYTES;
     codec::copy(&mut r, 0, &s[at..e]);
     r

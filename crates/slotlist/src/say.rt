@@ -4,6 +4,7 @@ use store::Answer;
 use store::State;
 ghost use Prim.Native.Nat.{_+_, _*_, _≤_};
 ghost use lib.ListN.{length};
+ghost use Rattle.lift.specs.Record.{recordWidth};
 
 const STDOUT: i32 = 1;
 
@@ -42,7 +43,7 @@ fn count(n: u64) {
 
 // The lift in a row of the result area.
 fn row(area: &[u8], at: usize)
-    requires { ⌜ at * 32 + 32 ≤ length (now area) ⌝ }
+    requires { ⌜ at * recordWidth + recordWidth ≤ length (now area) ⌝ }
 {
     let mut o = [lines::LINE_FEED; LIFT_BYTES];
     let time = lift::record_time(area, at * lift::RECORD_BYTES);

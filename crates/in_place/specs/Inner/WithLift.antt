@@ -3,7 +3,8 @@ use mathlib.Core.List.{List}
 use Prim.Native.Nat.{ℕ, _*_, _%_}
 use lib.IntN.{ℤ}
 use Rattle.codec.specs.Area.{splice}
-use Rattle.lift.specs.Record.{recordBytes}
+use Rattle.lift.specs.Record.{recordBytes, recordWidth}
+use Rattle.lift.specs.Rows.{liftsPerPage}
 use Rattle.bloom.specs.Bloom.{noted}
 use Rattle.store.specs.declared.State.{State}
 use Rattle.store.specs.World.{stateGiven}
@@ -11,4 +12,4 @@ use Rattle.store.specs.World.{stateGiven}
 -- a state with a lift that fills no page, its bucket count given
 unfoldable pub withLift : State → ℕ → ℕ → ℤ → List ℕ → ℕ → State
 withLift s time code load note buckets =
-    stateGiven s time load time buckets (splice (s .page) (s .count % 16 * 32) (recordBytes time code note)) (noted (s .bloom) code)
+    stateGiven s time load time buckets (splice (s .page) (s .count % liftsPerPage * recordWidth) (recordBytes time code note)) (noted (s .bloom) code)

@@ -4,6 +4,7 @@ use mathlib.Core.Bool.{false, cond}
 use mathlib.Core.Option.{Option, none, some}
 use mathlib.Core.List.{List}
 use Prim.Native.Nat.{ℕ, _+_, _*_, _≤_, _<_}
+use Rattle.lift.specs.Record.{recordWidth}
 use lib.ListN.{length}
 use Rattle.codec.specs.Area.{splice}
 use Rattle.skiplist.specs.Skip.{Live}
@@ -21,7 +22,7 @@ writtenIn area (some rows) = splice area 0 (rowBytes rows)
 -- rows that end at row `end` and begin at row r are written
 pub record WrittenUpTo (area new : List ℕ) (rows : List (List ℕ)) (end r : ℕ) : Type 0 where
   pub begins : r + length rows ≡ end
-  pub are : new ≡ splice area (r * 32) (rowBytes rows)
+  pub are : new ≡ splice area (r * recordWidth) (rowBytes rows)
 
 -- no damage, and so many rows
 abbrev pub CountIs : ℕ → Option (List (List ℕ)) → Type 0

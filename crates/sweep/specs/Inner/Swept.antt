@@ -6,6 +6,7 @@ use mathlib.Core.List.{List}
 use Prim.Native.Nat.{ℕ, _-_, _*_, _≤_}
 use lib.ListN.{length}
 use Rattle.bitset.specs.Inner.Words.{emptyWords, insertAll}
+use Rattle.lift.specs.Record.{recordWidth}
 use Rattle.lift.specs.Rows.{codeIn}
 use Rattle.tree.specs.Sweep.{sweepOn}
 use Rattle.sweep.specs.declared.Records.{Records}
@@ -29,9 +30,9 @@ sweptOf tree lifts tail g r =
 -- the records of so many lifts lie within their areas
 pub record Recorded (lifts tail : List ℕ) (g : Records) : Type 0 where
   pub few : g .count ≤ 320
-  pub before : g .count * 32 ≤ length lifts
-  pub after : (g .count - g .first) * 32 ≤ length tail
-  pub any : 32 ≤ length tail
+  pub before : g .count * recordWidth ≤ length lifts
+  pub after : (g .count - g .first) * recordWidth ≤ length tail
+  pub any : recordWidth ≤ length tail
 
 -- so do the buckets
 pub record Held (tree lifts tail : List ℕ) (g : Records) : Type 0 where
