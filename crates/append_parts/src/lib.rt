@@ -5,8 +5,8 @@ use flash::Page;
 use grow::Plan;
 ghost use mathlib.Core.Path.{_≡_};
 ghost use mathlib.Core.Bool.{cond, not, _&&_, _||_};
-ghost use Prim.Native.Nat.{_+_, _*_, _/_, _%_, _≤_};
-ghost use lib.Dec.{eqb};
+ghost use Prim.Native.Nat.{_+_, _-_, _*_, _/_, _%_, _≤_};
+ghost use lib.Dec.{eqb, leb};
 ghost use lib.ListN.{length};
 ghost use Rattle.lift.specs.Rows.{liftsMost};
 ghost use Rattle.codec.specs.Area.{part, splice, allOnes};
@@ -18,7 +18,7 @@ ghost use Rattle.grow.specs.Inner.Meaning.{meaning};
 // The place of the lift that fills a page, and a section.
 pub const LAST_IN_PAGE: usize = lift::LIFTS_PER_PAGE - 1;
 
-const LAST_IN_SECTION: usize = bloom::LIFTS_PER_SECTION - 1;
+pub const LAST_IN_SECTION: usize = bloom::LIFTS_PER_SECTION - 1;
 
 pub fn blank_page() -> [u8; PAGE_BYTES]
     ensures { λ r. ⌜ r ≡ erasedPage ⌝ }
@@ -51,6 +51,14 @@ pub fn is_full(p: Plan) -> bool
         Plan::Child(_, _, _, _) => false,
         Plan::Split(_, _, _, _, _) => false,
     }
+}
+
+// The first append to this serial drops the oldest closed segment.
+pub fn drops_first(oldest: u32, current: u32, count: u16, slots: u64) -> bool
+    requires { ⌜ oldest ≤ current ⌝ }
+    ensures { λ r. ⌜ r ≡ (eqb count 0 && leb slots (current - oldest)) ⌝ }
+{
+    (count == 0) & (slots <= (current - oldest) as u64)
 }
 
 // The Bloom section that the lift at this place fills can be written.

@@ -30,7 +30,7 @@ pub fn power(k: usize) -> u64
 }
 
 // The lowest set bit's place.
-fn lowest(x: u64) -> usize
+pub fn lowest(x: u64) -> usize
     requires { ⌜ 0 < x ⌝ }
     ensures { λ r. ⌜ (r ≡ trailingZeros 64 x) × (r < 64) × (2 ^ r ≤ x) ⌝ }
 {
@@ -44,7 +44,7 @@ fn ones(x: u64) -> u32
 }
 
 // The word without its lowest bit.
-fn without_lowest(x: u64) -> u64
+pub fn without_lowest(x: u64) -> u64
     requires { ⌜ 0 < x ⌝ }
     ensures { λ r. ⌜ r ≡ x - 2 ^ trailingZeros 64 x ⌝ }
 {

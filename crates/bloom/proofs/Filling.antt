@@ -1,26 +1,57 @@
--- A list that is written byte by byte from its front until it is another.
-use mathlib.Core.Path.{_≡_, _∙_}
+-- A page that is written fragment by fragment from its front until it is another.
+use mathlib.Core.Path.{_≡_, sym, ap, _∙_}
 use mathlib.Core.List.{List}
-use Prim.Native.Nat.{ℕ, _+_, _≤_, _<_}
-use native.Mathlib.Decide.{ℕ-discrete}
+use Prim.Native.Nat.{ℕ, _+_, _-_, _≤_, _<_}
+use native.Mathlib.Decide.{decLt}
 use native.Mathlib.Omega.{arith}
-use lib.ListN.{length, getD, set, length-set}
-use lib.Seq.{getD-set-same, getD-set-other, ext-getD}
+use lib.ListN.{length, getD}
+use lib.Seq.{ext-getD}
+use Rattle.codec.specs.Area.{splice, repeated}
+use Rattle.codec.proofs.Areas.{length-repeated, length-splice, byte-before, byte-inside, byte-after}
+use Rattle.bloom.proofs.Section.{zeros}
 
--- the first k bytes of d are those of `all`
-pub record Filled (all d : List ℕ) (k : ℕ) : Type 0 where
+-- the first n bytes of d are those of `all`, the others 0
+pub record Filled (all d : List ℕ) (n : ℕ) : Type 0 where
   pub long : length d ≡ length all
-  pub same : (j : ℕ) → j < k → getD d j 0 ≡ getD all j 0
+  pub same : (k : ℕ) → k < n → getD d k 0 ≡ getD all k 0
+  pub rest : (k : ℕ) → n ≤ k → getD d k 0 ≡ 0
 
-pub filled-none : (all d : List ℕ) → length d ≡ length all → Filled all d 0
-filled-none all d e = record { long = e; same = λ j h. absurd (omega arith) }
+pub filled-none : (all : List ℕ) (n : ℕ) → length all ≡ n → Filled all (repeated n 0) 0
+filled-none all n e =
+    record { long = length-repeated n 0 ∙ sym e; same = λ k h. absurd (omega arith); rest = λ k h. zeros n k }
 
-pub filled-more : (all d : List ℕ) (k b : ℕ) → k < length all → b ≡ getD all k 0 → Filled all d k → Filled all (set d k b) (k + 1)
-filled-more all d k b l e f = record { long = length-set d k b ∙ f .long; same = λ j h. go j h (ℕ-discrete j k) }
+-- p goes behind them; `all` has p there, and 0 where p is shorter than l
+module _ (all d : List ℕ) (n l : ℕ) (p : List ℕ) (f : Filled all d n) (room : n + l ≤ length all) (short : length p ≤ l)
+    (is : (m : ℕ) → m < length p → getD p m 0 ≡ getD all (n + m) 0)
+    (past : (m : ℕ) → length p ≤ m → m < l → getD all (n + m) 0 ≡ 0) where
+  fits : n + length p ≤ length d
+  fits = omega (arith, f .long)
+
+  next-same : (k : ℕ) → k < n + l → getD (splice d n p) k 0 ≡ getD all k 0
+  next-same k h = go (decLt k n) (decLt (k - n) (length p))
+    where
+      go : Dec (k < n) → Dec (k - n < length p) → getD (splice d n p) k 0 ≡ getD all k 0
+      go (yes a) b = byte-before d n p fits k a ∙ f .same k a
+      go (no a) (yes b) =
+          let e : k ≡ n + (k - n) = omega arith in
+          ap (λ (i : ℕ). getD (splice d n p) i 0) e ∙ byte-inside d n p fits (k - n) b ∙ is (k - n) b
+          ∙ ap (λ (i : ℕ). getD all i 0) (sym e)
+      go (no a) (no b) =
+          let e : k ≡ n + (k - n) = omega arith in
+          byte-after d n p fits k (omega arith) ∙ f .rest k (omega arith) ∙ sym (past (k - n) (omega arith) (omega arith))
+          ∙ ap (λ (i : ℕ). getD all i 0) (sym e)
+
+  pub filled-more : Filled all (splice d n p) (n + l)
+  filled-more =
+      record {
+        long = length-splice d n p fits ∙ f .long;
+        same = next-same;
+        rest = λ k h. byte-after d n p fits k (omega arith) ∙ f .rest k (omega arith);
+      }
+
+pub filled-all : (all d : List ℕ) (n : ℕ) → Filled all d n → ((k : ℕ) → n ≤ k → getD all k 0 ≡ 0) → d ≡ all
+filled-all all d n f past = ext-getD 0 d all (f .long) (λ k l. go k (decLt k n))
   where
-    go : (j : ℕ) → j < k + 1 → Dec (j ≡ k) → getD (set d k b) j 0 ≡ getD all j 0
-    go j h (yes q) = rw (q, getD-set-same d k b 0 (omega (arith, f .long))) e
-    go j h (no q) = rw (getD-set-other d k j b 0 q) (f .same j (omega arith))
-
-pub filled-all : (all d : List ℕ) (k : ℕ) → length all ≤ k → Filled all d k → d ≡ all
-filled-all all d k h f = ext-getD 0 d all (f .long) (λ i l. f .same i (omega (arith, f .long)))
+    go : (k : ℕ) → Dec (k < n) → getD d k 0 ≡ getD all k 0
+    go k (yes h) = f .same k h
+    go k (no h) = f .rest k (omega arith) ∙ sym (past k (omega arith))

@@ -98,6 +98,13 @@ module _ (ss : List (List ℕ)) (i : ℕ) where
       let L = fragmentLength (length ss) in
       ap (λ (n : ℕ). getD (bloomPage ss i) n 0) (sym (div-add-mod' k L)) ∙ page-at (k / L) (k % L) (mod-lt k (l .some))
 
+  -- past the last fragment
+  pub page-past : (k : ℕ) → length ss * fragmentLength (length ss) ≤ k → getD (bloomPage ss i) k 0 ≡ 0
+  unfolding bloomPage
+  page-past k h =
+      let L = fragmentLength (length ss) in
+      getD-zeroFilled (fragments L i ss) k ∙ List·getD-eq-default (fragments L i ss) 0 (omega (arith, length-fragments L i ss))
+
   pub length-page : Length (length ss) → length (bloomPage ss i) ≡ 512
   unfolding bloomPage zeroFilled
   length-page l =

@@ -1,4 +1,5 @@
 pub mod Section
+pub mod InArea
 pub mod Each
 pub mod Fragments
 pub mod Stored

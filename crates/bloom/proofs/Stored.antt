@@ -10,7 +10,7 @@ use lib.ListN.{length, getD, length-append, length-take, List·getD-append}
 use lib.Seq.{getD-append-add, getD-append-seam, getD-take}
 use borrow.Author.Tests.{eq-eqb, ne-eqb}
 use Rattle.codec.specs.Area.{part}
-use Rattle.codec.proofs.Areas.{length-part, getD-part}
+use Rattle.codec.proofs.Areas.{length-part, getD-part, part-part}
 use Rattle.bloom.specs.Pages.{each, sectionCount, norSection, sectionsFrom, sectionIn}
 use Rattle.bloom.proofs.Each.{length-each, getD-each}
 
@@ -54,16 +54,17 @@ module _ (nor buffer : List ℕ) (count j : ℕ) where
       go (yes l) = ap length (whole-section nor buffer count j l) ∙ length-part nor (4608 + 128 * j) 128 (omega arith)
       go (no f) = ap length (last-section nor buffer count j (omega arith) h) ∙ b
 
-  pub byte-in-nor : (from : ℕ) → (j + 1) * 64 ≤ count → from < 128
-      → getD nor (4608 + j * 128 + from) 0 ≡ getD (getD (sectionsFrom nor buffer count) j []) from 0
-  byte-in-nor from h l =
+  -- a part of it, where it stands
+  pub part-in-nor : length nor ≡ 6144 → count ≤ 320 → (from n : ℕ) → (j + 1) * 64 ≤ count → from + n ≤ 128
+      → part nor (4608 + j * 128 + from) n ≡ part (getD (sectionsFrom nor buffer count) j []) from n
+  part-in-nor size most from n h l =
       let e : 4608 + j * 128 + from ≡ 4608 + 128 * j + from = omega arith in
-      ap (λ (n : ℕ). getD nor n 0) e ∙ sym (getD-part nor (4608 + 128 * j) 128 from l)
-      ∙ ap (λ (s : List ℕ). getD s from 0) (sym (whole-section nor buffer count j h))
+      ap (λ (a : ℕ). part nor a n) e ∙ sym (part-part nor (4608 + 128 * j) 128 from n (omega arith) l)
+      ∙ ap (λ (s : List ℕ). part s from n) (sym (whole-section nor buffer count j h))
 
-  pub byte-in-buffer : (from : ℕ) → count < (j + 1) * 64 → j < sectionCount count
-      → getD buffer from 0 ≡ getD (getD (sectionsFrom nor buffer count) j []) from 0
-  byte-in-buffer from h k = ap (λ (s : List ℕ). getD s from 0) (sym (last-section nor buffer count j h k))
+  pub part-in-buffer : (from n : ℕ) → count < (j + 1) * 64 → j < sectionCount count
+      → part buffer from n ≡ part (getD (sectionsFrom nor buffer count) j []) from n
+  part-in-buffer from n h k = ap (λ (s : List ℕ). part s from n) (sym (last-section nor buffer count j h k))
 
 -- ---- the two Bloom pages
 

@@ -1,55 +1,87 @@
--- What `page_byte`, `in_some` and `may_hold` go by: the code's numbers of sections and fragment bytes are the definitions'.
+-- What `bloom_page`, `in_some` and `may_hold` go by: the code's numbers of sections and fragment bytes are the definitions'.
 use mathlib.Core.Path.{_≡_, sym, ap, _∙_}
 use mathlib.Core.Bool.{Bool, true, false, _&&_, _||_}
 use mathlib.Core.List.{List, []}
-use Prim.Native.Nat.{ℕ, suc, _+_, _-_, _*_, _/_, _%_, _≤_, _<_}
-use native.Mathlib.Nat.{mul-le-mul-right, mod-lt}
+use Prim.Native.Nat.{ℕ, suc, _+_, _-_, _*_, _/_, _≤_, _<_, min}
+use native.Mathlib.Nat.{mul-le-mul-right, suc-mul}
 use native.Mathlib.Omega.{arith}
 use lib.ListN.{length, getD, List·getD-eq-default}
 use Rattle.bloom.specs.Bloom.{bloomBit, inByte, isSet, atBits, someSet, mayHold}
 use Rattle.bloom.specs.Pages.{each, sectionCount, fragmentLength, sectionsFrom, bloomPage, sectionIn, sectionsIn}
-use Rattle.bloom.proofs.Fragments.{Length, fragment-length, fragment-room, page-byte, length-page}
-use Rattle.bloom.proofs.Stored.{length-sectionsFrom}
+use Rattle.codec.specs.Area.{part, splice}
+use Rattle.codec.proofs.Areas.{length-part, getD-part}
+use Rattle.bloom.proofs.Filling.{Filled, filled-more}
+use Rattle.bloom.proofs.Fragments.{Length, fragment-length, fragment-room, page-at, page-past, length-page}
+use Rattle.bloom.proofs.Stored.{length-sectionsFrom, length-section}
 
 -- ---- a page of the open segment
 
--- byte k of page i, with fragments of l bytes: the bounds of the places that are computed for it
-pub record Place (i k l : ℕ) : Type 0 where
-  pub some : 0 < l
-  pub start : i * l ≤ 128
-  pub rest : k % l < 128
+pub length-open-page : (nor buffer : List ℕ) (count i : ℕ) → 1 ≤ count → count ≤ 320
+    → length (bloomPage (sectionsFrom nor buffer count) i) ≡ 512
+length-open-page nor buffer count i some most =
+    let e = length-sectionsFrom nor buffer count in
+    length-page (sectionsFrom nor buffer count) i (fragment-length _ (omega arith) (omega arith))
 
-module _ (nor buffer : List ℕ) (count i : ℕ) (p : 1 ≤ count) (q : count ≤ 320) where
-  sections : Length (length (sectionsFrom nor buffer count))
-  sections = let e = length-sectionsFrom nor buffer count in fragment-length _ (omega arith) (omega arith)
+module _ (nor buffer : List ℕ) (count i s l : ℕ) (some : 1 ≤ count) (most : count ≤ 320) (a : s ≡ sectionCount count)
+    (b : l ≡ fragmentLength s) where
+  abbrev sections : List (List ℕ)
+  sections = sectionsFrom nor buffer count
 
-  pub length-open-page : length (bloomPage (sectionsFrom nor buffer count) i) ≡ 512
-  length-open-page = length-page (sectionsFrom nor buffer count) i sections
+  abbrev page : List ℕ
+  page = bloomPage sections i
 
-  module _ (k s l : ℕ) (a : s ≡ sectionCount count) (b : l ≡ fragmentLength s) where
-    pub place : i < 2 → Place i k l
-    place h =
-        let f = fragment-length s (omega arith) (omega arith) in
-        let z : 0 < l = omega (arith, f .some) in
-        let m : i ≤ 1 = omega arith in
-        record { some = z; start = omega (arith, f .most, mul-le-mul-right l m); rest = omega (arith, f .most, mod-lt k z) }
+  length-is : l ≡ fragmentLength (length sections)
+  length-is = b ∙ ap fragmentLength (a ∙ sym (length-sectionsFrom nor buffer count))
 
-    byte-of : getD (getD (sectionsFrom nor buffer count) (k / l) []) (i * l + k % l) 0
-        ≡ getD (bloomPage (sectionsFrom nor buffer count) i) k 0
-    byte-of =
-        let e : l ≡ fragmentLength (length (sectionsFrom nor buffer count)) =
-        b ∙ ap fragmentLength (a ∙ sym (length-sectionsFrom nor buffer count)) in
-        rw e (sym (page-byte (sectionsFrom nor buffer count) i k sections))
+  facts : Length s
+  facts = fragment-length s (omega arith) (omega arith)
 
-    pub byte-inside : (x : ℕ) → x ≡ getD (getD (sectionsFrom nor buffer count) (k / l) []) (i * l + k % l) 0
-        → x ≡ getD (bloomPage (sectionsFrom nor buffer count) i) k 0
-    byte-inside x e = e ∙ byte-of
+  -- where the fragments of section j come from and go to
+  pub record Fragment (j : ℕ) : Type 0 where
+    pub start : i * l ≤ 128
+    pub long : l ≤ 128
+    pub room : j * l + l ≤ 512
 
-    pub byte-outside : s ≤ k / l → 0 ≡ getD (bloomPage (sectionsFrom nor buffer count) i) k 0
-    byte-outside h =
-        let e : getD (sectionsFrom nor buffer count) (k / l) [] ≡ [] =
-        List·getD-eq-default (sectionsFrom nor buffer count) [] (omega (arith, length-sectionsFrom nor buffer count)) in
-        ap (λ (s : List ℕ). getD s (i * l + k % l) 0) (sym e) ∙ byte-of
+  pub fragment-at : (j : ℕ) → i < 2 → j < s → Fragment j
+  fragment-at j h k =
+      let m : i ≤ 1 = omega arith in
+      let r = fragment-room s j facts k in
+      let n : l ≤ 128 = omega (arith, facts .most) in
+      record { start = omega (arith, mul-le-mul-right l m); long = n; room = rw b r }
+
+  module _ (nor-size : length nor ≡ 6144) (buffer-size : length buffer ≡ 128) (j n : ℕ) (j-in : j < s)
+      (n-is : n ≡ min (i * l + l) 128 - i * l) where
+    abbrev section : List ℕ
+    section = getD sections j []
+
+    section-size : length section ≡ 128
+    section-size = length-section nor buffer count j nor-size buffer-size most (omega arith)
+
+    part-size : i * l ≤ 128 → length (part section (i * l) n) ≡ n
+    part-size h = length-part section (i * l) n (omega (arith, section-size))
+
+    byte-is : (m : ℕ) → m < l → getD page (j * l + m) 0 ≡ getD section (i * l + m) 0
+    byte-is m h = rw length-is (page-at sections i j m (omega (arith, length-is)))
+
+    part-is : (m : ℕ) → m < n → getD (part section (i * l) n) m 0 ≡ getD page (j * l + m) 0
+    part-is m h = getD-part section (i * l) n m h ∙ sym (byte-is m (omega arith))
+
+    part-past : i * l ≤ 128 → (m : ℕ) → n ≤ m → m < l → getD page (j * l + m) 0 ≡ 0
+    part-past h m u v = byte-is m v ∙ List·getD-eq-default section 0 {n = i * l + m} (omega (arith, section-size))
+
+    -- one turn of the loop: the fragment of section j goes behind those before it
+    pub filled-next : i * l ≤ 128 → j * l + l ≤ 512 → (d : List ℕ) → Filled page d (j * l)
+        → Filled page (splice d (j * l) (part section (i * l) n)) ((j + 1) * l)
+    filled-next h room d f =
+        let wide = part-size h in
+        let whole = length-open-page nor buffer count i some most in
+        let next : (j + 1) * l ≡ j * l + l = omega (arith, suc-mul j l) in
+        rw next
+        (filled-more page d (j * l) l (part section (i * l) n) f (omega (arith, whole)) (omega (arith, wide, n-is))
+        (λ m k. part-is m (omega (arith, wide))) (λ m k. part-past h m (omega (arith, wide))))
+
+  pub past-all : (k : ℕ) → s * l ≤ k → getD page k 0 ≡ 0
+  past-all k h = page-past sections i k (rw (← length-is, length-sectionsFrom nor buffer count, ← a) h)
 
 -- ---- the turns of `in_some`
 

@@ -2,8 +2,9 @@
 use flash::PAGE_BYTES;
 ghost use mathlib.Core.Path.{_≡_};
 ghost use mathlib.Core.List.{[]};
-ghost use Prim.Native.Nat.{_+_, _*_, _-_, _^_, _%_, _/_, _<_, _≤_};
+ghost use Prim.Native.Nat.{_+_, _*_, _-_, _^_, _%_, _/_, _<_, _≤_, min};
 ghost use lib.ListN.{length, getD};
+ghost use Rattle.codec.specs.Area.{part, splice};
 ghost use Rattle.flash.specs.Chip.{norWidth};
 ghost use Rattle.bloom.specs.Bloom.{bloomBit, setIn, inByte, noted, emptySection, someSet, mayHold};
 ghost use Rattle.bloom.specs.Pages.{sectionCount, fragmentLength, sectionsFrom, bloomPage, sectionIn, sectionsIn};
@@ -52,6 +53,25 @@ pub fn note(section: [u8; SECTION_BYTES], code: u32) -> [u8; SECTION_BYTES]
     set_bit(two, bloom_bit(code, 2))
 }
 
+// Bit b of the section that stands in an area from `at` on.
+fn set_at(s: &mut [u8], at: usize, b: u16)
+    requires { ⌜ (at + 128 ≤ length (now s)) × (b < 1024) ⌝ }
+    ensures { λ _. ⌜ now (s .exit) ≡ splice (now (s .entry)) at (setIn (part (now (s .entry)) at 128) b) ⌝ }
+{
+    let i = at + (b / 8) as usize;
+    s[i] = s[i] | (128u8 >> (b % 8));
+}
+
+// The three bits of a load, in such a section: nothing else of the area is touched.
+pub fn note_at(s: &mut [u8], at: usize, code: u32)
+    requires { ⌜ (at + 128 ≤ length (now s)) × (1 ≤ code) ⌝ }
+    ensures { λ _. ⌜ now (s .exit) ≡ splice (now (s .entry)) at (noted (part (now (s .entry)) at 128) code) ⌝ }
+{
+    set_at(s, at, bloom_bit(code, 0));
+    set_at(s, at, bloom_bit(code, 1));
+    set_at(s, at, bloom_bit(code, 2));
+}
+
 pub fn empty_section() -> [u8; SECTION_BYTES]
     ensures { λ r. ⌜ r ≡ emptySection ⌝ }
 {
@@ -73,32 +93,41 @@ pub fn fragment_of(sections: usize) -> usize
     if l < 128 { l } else { 128 }
 }
 
-// Byte `from` of section j, with 0 past its end: a whole section is in NOR, a part-filled one in the buffer.
-fn section_byte(nor: &[u8], buffer: &[u8], count: u16, j: usize, from: usize) -> u8
-    requires { ⌜ (length (now nor) ≡ norWidth) × (count ≤ 320) × (j < sectionCount count) × (length (now buffer) ≡ 128) ⌝ }
-    ensures { λ r. ⌜ r ≡ getD (getD (sectionsFrom (now (nor .entry)) (now (buffer .entry)) count) j []) from 0 ⌝ }
+// Where a fragment from `from` on ends: after l bytes, or at the section's end.
+fn end_of(from: usize, l: usize) -> usize
+    requires { ⌜ (from ≤ 128) × (l ≤ 128) ⌝ }
+    ensures { λ r. ⌜ r ≡ min (from + l) 128 ⌝ }
 {
-    if 128 <= from {
-        return 0;
+    if from + l < SECTION_BYTES {
+        return from + l;
     }
-    if (j + 1) * LIFTS_PER_SECTION <= count as usize {
-        return nor[4608 + j * 128 + from];
-    }
-    buffer[from]
+    SECTION_BYTES
 }
 
-// Byte k of Bloom page i.
-fn page_byte(nor: &[u8], buffer: &[u8], count: u16, i: usize, k: usize) -> u8
-    requires { ⌜ (length (now nor) ≡ norWidth) × (1 ≤ count) × (count ≤ 320) × (i < 2) × (k < 512) × (length (now buffer) ≡ 128) ⌝ }
-    ensures { λ r. ⌜ r ≡ getD (bloomPage (sectionsFrom (now (nor .entry)) (now (buffer .entry)) count) i) k 0 ⌝ }
+// Bytes `from` to `to` of section j go to `at`: a whole section is in NOR, a part-filled one in the buffer.
+fn put_fragment(
+    d: &mut [u8],
+    at: usize,
+    nor: &[u8],
+    buffer: &[u8],
+    count: u16,
+    j: usize,
+    from: usize,
+    to: usize,
+)
+    requires { ⌜ (length (now nor) ≡ norWidth) × (count ≤ 320) × (j < sectionCount count) × (length (now buffer) ≡ 128) ⌝ }
+    requires { ⌜ (from ≤ to) × (to ≤ 128) × (at + (to - from) ≤ length (now d)) ⌝ }
+    ensures { λ _. ⌜ now (d .exit) ≡ splice (now (d .entry)) at
+        (part (getD (sectionsFrom (now (nor .entry)) (now (buffer .entry)) count) j []) from (to - from)) ⌝ }
 {
-    let s = sections_of(count);
-    let l = fragment_of(s);
-    let j = k / l;
-    if s <= j {
-        return 0;
+    if (j + 1) * LIFTS_PER_SECTION <= count as usize {
+        let start = flash::TREE_BYTES + j * SECTION_BYTES;
+        let a = start + from;
+        let e = start + to;
+        codec::copy(d, at, &nor[a..e]);
+        return;
     }
-    section_byte(nor, buffer, count, j, i * l + k % l)
+    codec::copy(d, at, &buffer[from..to]);
 }
 
 // Bloom page i, 0 or 1, of the open segment.
@@ -107,11 +136,14 @@ pub fn bloom_page(nor: &[u8], buffer: [u8; SECTION_BYTES], count: u16, i: usize)
     ensures { λ r. ⌜ r ≡ bloomPage (sectionsFrom (now (nor .entry)) buffer count) i ⌝ }
 {
     let mut d = [0u8; PAGE_BYTES];
-    let mut k: usize = 0;
-    while k < 512 {
-        let b = page_byte(nor, &buffer, count, i, k);
-        d[k] = b;
-        k += 1;
+    let s = sections_of(count);
+    let l = fragment_of(s);
+    let from = i * l;
+    let to = end_of(from, l);
+    let mut j: usize = 0;
+    while j < s {
+        put_fragment(&mut d, j * l, nor, &buffer, count, j, from, to);
+        j += 1;
     }
     d
 }

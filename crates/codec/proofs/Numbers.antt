@@ -1,13 +1,14 @@
 -- Laws of little-endian numbers, over every width. Assumes nothing.
-use mathlib.Core.Path.{_≡_, refl, ap, _∙_}
+use mathlib.Core.Path.{_≡_, refl, sym, ap, _∙_}
 use mathlib.Core.List.{List, [], _∷_}
 use Prim.Native.Nat.{ℕ, zero, suc, _+_, _*_, _/_, _%_, _^_, _≤_, _<_}
 use native.Mathlib.Nat.{pow-suc, pow-zero}
+use native.Mathlib.Decide.{decLt}
 use native.Mathlib.Omega.{arith}
-use lib.ListN.{length, getD}
-use Rattle.codec.specs.Area.{splice}
+use lib.ListN.{length, getD, List·getD-eq-default}
+use Rattle.codec.specs.Area.{part, splice}
 use Rattle.codec.specs.Number.{le, bytes, numberAt}
-use Rattle.codec.proofs.Areas.{part-splice}
+use Rattle.codec.proofs.Areas.{length-part, getD-part, part-splice}
 
 pub length-bytes : (n v : ℕ) → length (bytes n v) ≡ n
 unfolding bytes
@@ -52,3 +53,19 @@ pub get-put : (s : List ℕ) (at n v : ℕ) → at + n ≤ length s → v < 256 
 get-put s at n v h b =
     let l = length-bytes n v in
     ap le (part-splice s at (bytes n v) (omega arith) n l) ∙ le-bytes n v b
+
+-- a part of bytes has bytes
+part-below : (s : List ℕ) (at n i : ℕ) → at + n ≤ length s → ((j : ℕ) → getD s j 0 < 256) → getD (part s at n) i 0 < 256
+part-below s at n i h b = go (decLt i n)
+  where
+    go : Dec (i < n) → getD (part s at n) i 0 < 256
+    go (yes l) = rw (getD-part s at n i l) (b (at + i))
+    go (no l) =
+        let p = length-part s at n h in
+        rw (List·getD-eq-default (part s at n) 0 {n = i} (omega arith)) (omega arith)
+
+-- a number read from bytes and written gives the same bytes
+pub put-get : (s : List ℕ) (at n : ℕ) → at + n ≤ length s → ((i : ℕ) → getD s i 0 < 256) → bytes n (numberAt s at n) ≡ part s at n
+put-get s at n l b =
+    let p = length-part s at n l in
+    ap (λ (m : ℕ). bytes m (le (part s at n))) (sym p) ∙ bytes-le (part s at n) (λ i. part-below s at n i l b)

@@ -6,13 +6,16 @@ use form::Form;
 use skiplist::LEVELS;
 use skiplist::Pointer;
 ghost use mathlib.Core.Path.{_≡_};
-ghost use Prim.Native.Nat.{_≤_};
-ghost use lib.ListN.{length};
+ghost use Prim.Native.Nat.{_≤_, _<_};
+ghost use lib.ListN.{length, getD};
 ghost use Rattle.lift.specs.Rows.{liftsMost};
 ghost use Rattle.flash.specs.Chip.{pageWidth};
 ghost use Rattle.codec.specs.Area.{splice, repeated};
+ghost use Rattle.codec.specs.Number.{numberAt};
+ghost use Rattle.skiplist.specs.Skip.{levels, none};
+ghost use Rattle.skiplist.specs.PointerBytes.{pointersAt};
 ghost use Rattle.header.specs.Header.{formBytes, countBytes, spanBytes, headerPage};
-ghost use Rattle.header.specs.Header.{countsGood, spanGood, pointerGood, pointersGood, formIn, countsIn, spanIn, headerIn};
+ghost use Rattle.header.specs.Header.{pointersFrom, countsGood, spanGood, pointerGood, pointersGood, formIn, countsIn, spanIn, headerGood, headerIn};
 
 // Where the pointers stand in a header.
 const POINTERS_AT: usize = 40;
@@ -120,26 +123,86 @@ fn form_in(h: &[u8], form: Form) -> bool
     }
 }
 
-// The header page h; its serial is to be below `before`.
+// The header page h has no damage; its serial is to be below `before`.
+pub fn header_good(h: &[u8], form: Form, slots: u64, before: u32) -> bool
+    requires { ⌜ length (now h) ≡ pageWidth ⌝ }
+    ensures { λ r. ⌜ r ≡ headerGood form (now (h .entry)) slots before ⌝ }
+{
+    let own = form_in(h, form);
+    let counts = counts_in(h);
+    let span = span_in(h);
+    let next = skiplist::pointers_at(h, POINTERS_AT, form);
+    let pointers = pointers_good(next, slots);
+    let serial = serial_in(h);
+    own & (counts & (span & (pointers & (serial < before))))
+}
+
+// What a header says, each number by itself: a caller that needs a few of them makes no Header.
+pub fn serial_in(h: &[u8]) -> u32
+    requires { ⌜ length (now h) ≡ pageWidth ⌝ }
+    ensures { λ r. ⌜ r ≡ numberAt (now (h .entry)) 0 4 ⌝ }
+{
+    codec::get_u32(h, 0)
+}
+
+pub fn count_in(h: &[u8]) -> u16
+    requires { ⌜ length (now h) ≡ pageWidth ⌝ }
+    ensures { λ r. ⌜ r ≡ numberAt (now (h .entry)) 4 2 ⌝ }
+{
+    codec::get_u16(h, 4)
+}
+
+pub fn buckets_in(h: &[u8]) -> u8
+    requires { ⌜ length (now h) ≡ pageWidth ⌝ }
+    ensures { λ r. ⌜ r ≡ numberAt (now (h .entry)) 6 1 ⌝ }
+{
+    codec::get_u8(h, 6)
+}
+
+pub fn start_in(h: &[u8]) -> u64
+    requires { ⌜ length (now h) ≡ pageWidth ⌝ }
+    ensures { λ r. ⌜ r ≡ numberAt (now (h .entry)) 16 8 ⌝ }
+{
+    codec::get_u64(h, 16)
+}
+
+pub fn low_in(h: &[u8]) -> u32
+    requires { ⌜ length (now h) ≡ pageWidth ⌝ }
+    ensures { λ r. ⌜ r ≡ numberAt (now (h .entry)) 32 4 ⌝ }
+{
+    codec::get_u32(h, 32)
+}
+
+pub fn high_in(h: &[u8]) -> u32
+    requires { ⌜ length (now h) ≡ pageWidth ⌝ }
+    ensures { λ r. ⌜ r ≡ numberAt (now (h .entry)) 36 4 ⌝ }
+{
+    codec::get_u32(h, 36)
+}
+
+// The pointer of level k + 1.
+pub fn pointer_in(h: &[u8], form: Form, k: usize) -> Pointer
+    requires { ⌜ (length (now h) ≡ pageWidth) × (k < levels) ⌝ }
+    ensures { λ r. ⌜ r ≡ getD (pointersAt form (now (h .entry)) pointersFrom) k none ⌝ }
+{
+    skiplist::pointer_at(h, POINTERS_AT + form::pointer_bytes(form) * k, form)
+}
+
+// The header page h as read.
 pub fn header_in(h: &[u8], form: Form, slots: u64, before: u32) -> Header
     requires { ⌜ length (now h) ≡ pageWidth ⌝ }
     ensures { λ r. ⌜ r ≡ headerIn form (now (h .entry)) slots before ⌝ }
 {
-    let own = form_in(h, form);
-    let serial = codec::get_u32(h, 0);
+    let good = header_good(h, form, slots, before);
     let next = skiplist::pointers_at(h, POINTERS_AT, form);
-    let counts = counts_in(h);
-    let span = span_in(h);
-    let pointers = pointers_good(next, slots);
-    let good = own & (counts & (span & (pointers & (serial < before))));
     Header {
         good: good,
-        serial: serial,
-        count: codec::get_u16(h, 4),
-        buckets: codec::get_u8(h, 6),
-        start: codec::get_u64(h, 16),
-        low: codec::get_u32(h, 32),
-        high: codec::get_u32(h, 36),
+        serial: serial_in(h),
+        count: count_in(h),
+        buckets: buckets_in(h),
+        start: start_in(h),
+        low: low_in(h),
+        high: high_in(h),
         next: next,
     }
 }

@@ -3,13 +3,12 @@ use mathlib.Core.Path.{_≡_, refl, sym, ap, ap₂, _∙_}
 use mathlib.Core.List.{List, [], _++_, append-assoc}
 use Prim.Native.Nat.{ℕ, _+_, _^_, _≤_, _<_}
 use native.Mathlib.Omega.{arith}
-use lib.ListN.{length, take, getD, length-append, List·getD-eq-default}
-use native.Mathlib.Decide.{decLt}
+use lib.ListN.{length, take, getD, length-append}
 use lib.Seq.{take-at, take-all, drop-at}
 use Rattle.codec.specs.Area.{part, splice}
-use Rattle.codec.specs.Number.{le, bytes, numberAt}
-use Rattle.codec.proofs.Areas.{length-part, getD-part, part-add, part-part, part-splice, length-splice, splice-next}
-use Rattle.codec.proofs.Numbers.{length-bytes, le-bytes, bytes-le}
+use Rattle.codec.specs.Number.{le, bytes}
+use Rattle.codec.proofs.Areas.{part-add, part-part, part-splice, length-splice, splice-next}
+use Rattle.codec.proofs.Numbers.{length-bytes, le-bytes, put-get}
 use Rattle.lift.specs.Record.{recordBytes, timeAt, codeAt, noteAt}
 
 pub length-record : (time code : ℕ) (note : List ℕ) → length note ≡ 20 → length (recordBytes time code note) ≡ 32
@@ -66,32 +65,17 @@ module _ (time code : ℕ) (note : List ℕ) (bt : time < 256 ^ 8) (bc : code < 
       let m = length-splice s at p k in
       record-read (splice s at p) at (omega arith) (part-splice s at p k 32 l)
 
--- the bytes of a part of bytes
-part-below : (s : List ℕ) (at n i : ℕ) → at + n ≤ length s → ((j : ℕ) → getD s j 0 < 256) → getD (part s at n) i 0 < 256
-part-below s at n i h b = go (decLt i n)
-  where
-    go : Dec (i < n) → getD (part s at n) i 0 < 256
-    go (yes l) = rw (getD-part s at n i l) (b (at + i))
-    go (no l) =
-        let p = length-part s at n h in
-        rw (List·getD-eq-default (part s at n) 0 {n = i} (omega arith)) (omega arith)
-
 -- what was read, written, gives the same bytes
 pub record-rewritten : (s : List ℕ) (at : ℕ) → at + 32 ≤ length s → ((i : ℕ) → getD s i 0 < 256)
     → recordBytes (timeAt s at) (codeAt s at) (noteAt s at) ≡ part s at 32
 unfolding recordBytes
 record-rewritten s at h b =
-    ap₂ _++_ (number at 8 (omega arith)) (ap (λ (p : List ℕ). p ++ noteAt s at) (number (at + 8) 4 (omega arith)))
+    ap₂ _++_ (put-get s at 8 (omega arith) b) (ap (λ (p : List ℕ). p ++ noteAt s at) (put-get s (at + 8) 4 (omega arith) b))
     ∙ ap (λ (p : List ℕ). part s at 8 ++ p) (ap (λ (j : ℕ). part s (at + 8) 4 ++ part s j 20) e ∙ sym (part-add s (at + 8) 4 20))
     ∙ sym (part-add s at 8 24)
   where
     e : at + 12 ≡ at + 8 + 4
     e = omega arith
-
-    number : (to n : ℕ) → to + n ≤ length s → bytes n (numberAt s to n) ≡ part s to n
-    number to n l =
-        let p = length-part s to n l in
-        ap (λ (m : ℕ). bytes m (le (part s to n))) (sym p) ∙ bytes-le (part s to n) (λ i. part-below s to n i l b)
 
 -- the three fields written side by side are the record written
 pub record-steps : (s p q r : List ℕ) (at time code : ℕ) (note : List ℕ) → at + 32 ≤ length s

@@ -1,5 +1,5 @@
--- Grounds 1 to 6 of a search and of a tally as tested, what is known where none holds, and each return of the two calls. Assumes nothing.
-use mathlib.Core.Path.{_≡_, refl, _∙_}
+-- Grounds 1 to 6 of a search and of a tally as tested, what is known where none holds, and each return of the two. Assumes nothing.
+use mathlib.Core.Path.{_≡_, refl, sym, subst, _∙_}
 use mathlib.Core.Bool.{true, not, _&&_, _||_}
 use mathlib.Core.List.{List, [], _∷_}
 use Prim.Native.Nat.{ℕ, zero, suc}
@@ -26,26 +26,13 @@ use Rattle.bounds.proofs.Within as Within
 use Rattle.store.specs.declared.State.{State}
 use Rattle.store.specs.Bounds.{headsOk, withinBounds}
 use Rattle.store.specs.World.{world}
-use Rattle.questions.specs.Queries.{logOf, searchGround, searchOutcome, tallyOutcome}
-use Rattle.store.proofs.Rows.{row, row-same, row-later, row-none}
-use Rattle.store.proofs.Grounds.{standing-in}
 use Rattle.store.specs.Inner.Pieces.{boundsGround}
-use Rattle.questions.specs.Inner.Asked.{askedGround}
+use Rattle.questions.specs.Queries.{logOf, searchGround, searchOutcome, tallyOutcome}
+use Rattle.store.proofs.Rows.{row, row-none}
+use Rattle.store.proofs.Grounds.{standing-in}
+use Rattle.store.proofs.Outcomes.{stands-not, stands}
 
--- ---- grounds 1 to 6
-
-module _ (s : State) (nand nor slots t1 t2 : ℕ) (k1 k2 : ℤ) (n : ℕ) (judged : n ≡ boundsGround New s 0 nand nor slots) where
-  pub asked-bounds : (n ≡ 0 → ⊥) → n ≡ askedGround s nand nor slots t1 t2 k1 k2
-  unfolding askedGround boundsGround
-  asked-bounds h =
-      row-same (nandBad nand slots) (norBad nor) (not (withinBounds New s 0 slots)) n 0 (queryGround t1 t2 k1 k2) judged (λ e. absurd (h e))
-
-  pub asked-query : (m : ℕ) → n ≡ 0 → m ≡ queryGround t1 t2 k1 k2 → m ≡ askedGround s nand nor slots t1 t2 k1 k2
-  unfolding askedGround boundsGround
-  asked-query m h f =
-      row-later (nandBad nand slots) (norBad nor) (not (withinBounds New s 0 slots)) n 0 (queryGround t1 t2 k1 k2) judged h m f
-
--- ---- where none of them holds
+-- ---- grounds 1 to 3 do not hold
 
 heads-in : (slots : ℕ) (ps : List Pointer) → headsOk ps slots ≡ true → InSlots slots ps
 unfolding headsOk
@@ -53,71 +40,79 @@ heads-in slots [] e k = refl
 heads-in slots (p ∷ ps) e zero = and-left (inSlots p slots) (headsOk ps slots) e
 heads-in slots (p ∷ ps) e (suc k) = heads-in slots ps (and-right (inSlots p slots) (headsOk ps slots) e) k
 
-pub record Asked (s : State) (nand nor : List ℕ) (slots : ℕ) (k1 k2 : ℤ) : Type 0 where
-  pub low : loadOk k1 ≡ true
-  pub high : loadOk k2 ≡ true
-  pub sound : LogSound nand nor (logOf s slots)
-
--- in either form
-pub asked-in : (f : Form) (s : State) (live : ℕ) (nand nor : List ℕ) (slots t1 t2 : ℕ) (k1 k2 : ℤ)
-    → row (nandBad (length nand) slots) (norBad (length nor)) (not (withinBounds f s live slots)) (queryGround t1 t2 k1 k2) ≡ 0
-    → Asked s nand nor slots k1 k2
-unfolding queryGround
-asked-in f s live nand nor slots t1 t2 k1 k2 e =
-    let r = row-none (nandBad (length nand) slots) (norBad (length nor)) (not (withinBounds f s live slots))
-    (queryGround t1 t2 k1 k2) e in
+-- in either form, whatever grounds come later
+pub sound-in : (f : Form) (s : State) (live : ℕ) (nand nor : List ℕ) (slots later : ℕ)
+    → row (nandBad (length nand) slots) (norBad (length nor)) (not (withinBounds f s live slots)) later ≡ 0
+    → LogSound nand nor (logOf s slots)
+sound-in f s live nand nor slots later e =
+    let r = row-none (nandBad (length nand) slots) (norBad (length nor)) (not (withinBounds f s live slots)) later e in
     let st = standing-in f s live (length nand) (length nor) slots (r .0) in
+    record {
+      nand-size = st .chips .nand-size;
+      nor-size = st .chips .nor-size;
+      slots-some = omega (arith, st .chips .least);
+      current-some = omega (arith, st .serials .first, st .serials .rising);
+      most = st .counts .lifts;
+      buckets-most = st .counts .few;
+      heads-in = heads-in slots (s .heads) (st .heads);
+    }
+
+module _ (nand nor : List ℕ) (s : State) (slots n : ℕ) (judged : n ≡ boundsGround New s 0 (length nand) (length nor) slots) where
+  -- what a search of a log asks, g being the state's
+  pub log-sound : n ≡ 0 → (g : Log) → g ≡ logOf s slots → LogSound nand nor g
+  unfolding boundsGround
+  log-sound z g e = subst (LogSound nand nor) (sym e) (sound-in New s 0 nand nor slots 0 (sym judged ∙ z))
+
+  -- ---- grounds 1 to 6
+
+  module _ (t1 t2 : ℕ) (k1 k2 : ℤ) where
+    pub ground-bounds : (n ≡ 0 → ⊥) → n ≡ searchGround (world nand nor s) slots t1 t2 k1 k2
+    unfolding searchGround
+    ground-bounds h = stands-not nand nor s slots n judged (queryGround t1 t2 k1 k2) h
+
+    pub ground-query : (m : ℕ) → n ≡ 0 → m ≡ queryGround t1 t2 k1 k2 → m ≡ searchGround (world nand nor s) slots t1 t2 k1 k2
+    unfolding searchGround
+    ground-query m z f = stands nand nor s slots n judged (queryGround t1 t2 k1 k2) m z f
+
+-- grounds 4 to 6 do not hold
+pub loads-ok : (t1 t2 : ℕ) (k1 k2 : ℤ) → queryGround t1 t2 k1 k2 ≡ 0 → (loadOk k1 ≡ true) × (loadOk k2 ≡ true)
+unfolding queryGround
+loads-ok t1 t2 k1 k2 e =
     let times = not (timeOk t1 && timeOk t2) in
     let loads = not (loadOk k1 && loadOk k2) in
     let more = ground 6 (ltb t2 t1 || ltZ k2 k1) 0 in
-    let f = Within.ground-rest 4 times (ground 5 loads more) (λ z. omega arith) (r .1) in
+    let f = Within.ground-rest 4 times (ground 5 loads more) (λ z. omega arith) e in
     let ok = not-false (loadOk k1 && loadOk k2) (Within.ground-not 5 loads more (λ z. omega arith) f) in
-    record {
-      low = and-left (loadOk k1) (loadOk k2) ok;
-      high = and-right (loadOk k1) (loadOk k2) ok;
-      sound = record {
-        nand-size = st .chips .nand-size;
-        nor-size = st .chips .nor-size;
-        slots-some = omega (arith, st .chips .least);
-        current-some = omega (arith, st .serials .first, st .serials .rising);
-        most = st .counts .lifts;
-        buckets-most = st .counts .few;
-        heads-in = heads-in slots (s .heads) (st .heads);
-      };
-    }
-
-pub asked : (s : State) (nand nor : List ℕ) (slots t1 t2 : ℕ) (k1 k2 : ℤ)
-    → askedGround s (length nand) (length nor) slots t1 t2 k1 k2 ≡ 0 → Asked s nand nor slots k1 k2
-unfolding askedGround
-asked s nand nor slots t1 t2 k1 k2 e = asked-in New s 0 nand nor slots t1 t2 k1 k2 e
+    (and-left (loadOk k1) (loadOk k2) ok, and-right (loadOk k1) (loadOk k2) ok)
 
 -- ---- the returns of a search
 
 module _ (nand nor : List ℕ) (s : State) (slots t1 t2 : ℕ) (k1 k2 : ℤ) (area : List ℕ) (n : ℕ)
-    (judged : n ≡ askedGround s (length nand) (length nor) slots t1 t2 k1 k2) where
+    (judged : n ≡ searchGround (world nand nor s) slots t1 t2 k1 k2) where
   pub search-refused : (n ≡ 0 → ⊥)
       → _≡_ {A = SearchAnswer} (record { number = n; count = 0; area = area }) (searchOutcome (world nand nor s) slots t1 t2 k1 k2 area)
-  unfolding searchOutcome searchGround askedGround
+  unfolding searchOutcome
   search-refused h = rw (← judged, ne-eqb n 0 h)
 
-  -- g and the loads as the code makes them
-  pub search-done : n ≡ 0 → (g : Log) (low high : ℕ) → g ≡ logOf s slots → low ≡ stored k1 → high ≡ stored k2 → (a : SearchAnswer)
-      → a ≡ searchAnswer area (foundRows nand nor (s .page) g (serialsFrom (g .oldest)) (record { t1 = t1; t2 = t2; k1 = low; k2 = high }))
+  -- g, the page and the loads as the code has them
+  pub search-done : n ≡ 0 → (g : Log) (page : List ℕ) (low high : ℕ) → g ≡ logOf s slots → page ≡ s .page → low ≡ stored k1
+      → high ≡ stored k2 → (a : SearchAnswer)
+      → a ≡ searchAnswer area (foundRows nand nor page g (serialsFrom (g .oldest)) (record { t1 = t1; t2 = t2; k1 = low; k2 = high }))
       → a ≡ searchOutcome (world nand nor s) slots t1 t2 k1 k2 area
-  unfolding searchOutcome searchGround askedGround
-  search-done z g low high e l h a f = rw (← judged, z) (f ∙ rw (e, l, h))
+  unfolding searchOutcome
+  search-done z g page low high e p l h a f = rw (← judged, z) (f ∙ rw (e, p, l, h))
 
 -- ---- the returns of a tally: all loads
 
 module _ (nand nor : List ℕ) (s : State) (slots t1 t2 : ℕ) (n : ℕ)
-    (judged : n ≡ askedGround s (length nand) (length nor) slots t1 t2 (negsuc 49999) (pos 100000)) where
+    (judged : n ≡ searchGround (world nand nor s) slots t1 t2 (negsuc 49999) (pos 100000)) where
   pub tally-refused : (n ≡ 0 → ⊥)
       → _≡_ {A = TallyAnswer} (record { number = n; counts = noCounts }) (tallyOutcome (world nand nor s) slots t1 t2)
-  unfolding tallyOutcome searchGround askedGround
+  unfolding tallyOutcome
   tally-refused h = rw (← judged, ne-eqb n 0 h)
 
-  pub tally-done : n ≡ 0 → (g : Log) → g ≡ logOf s slots → (a : TallyAnswer)
-      → a ≡ tallyAnswer (foundRows nand nor (s .page) g (serialsFrom (g .oldest)) (record { t1 = t1; t2 = t2; k1 = 1; k2 = 150001 }))
+  pub tally-done : n ≡ 0 → (g : Log) (page : List ℕ) → g ≡ logOf s slots → page ≡ s .page → (a : TallyAnswer)
+      → a ≡ tallyAnswer (foundRows nand nor page g (serialsFrom (g .oldest)) (record { t1 = t1; t2 = t2; k1 = 1; k2 = 150001 }))
       → a ≡ tallyOutcome (world nand nor s) slots t1 t2
-  unfolding tallyOutcome searchGround askedGround stored
-  tally-done z g e a f = rw (← judged, z) (f ∙ rw e)
+  unfolding tallyOutcome stored
+  tally-done z g page e p a f = rw (← judged, z) (f ∙ rw (e, p))

@@ -25,7 +25,7 @@ use Rattle.store.specs.World.{World, livenessOf}
 use Rattle.questions.specs.Queries.{logOf, queryOf, searchGround, tallyOutcome}
 use Rattle.store.proofs.Rows.{row-none}
 use Rattle.store.proofs.Grounds.{standing-in}
-use Rattle.questions.proofs.Asked.{asked-in}
+use Rattle.questions.proofs.Asked.{sound-in}
 
 module _ (w : World) (slots t1 t2 : ℕ) where
   abbrev tallyGround : ℕ
@@ -77,13 +77,13 @@ module _ (w : World) (slots t1 t2 : ℕ) where
       → total (countsOf (rowCodes rows)) ≤ mostFound slots
   unfolding searchGround
   counted-most z rows e =
-      let a = asked-in (w .form) (w .state) (w .live) (w .nand) (w .nor) slots t1 t2 (negsuc 49999) (pos 100000) z in
+      let sound = sound-in (w .form) (w .state) (w .live) (w .nand) (w .nor) slots (queryGround t1 t2 (negsuc 49999) (pos 100000)) z in
       omega (
         arith,
         counts-total (rowCodes rows),
         length-map rows (λ r. codeAt r 0),
         found-most (w .nand) (w .nor) (w .state .page) (logOf (w .state) slots) (livenessOf w)
-            (queryOf t1 t2 (negsuc 49999) (pos 100000)) (a .sound) rows e,
+            (queryOf t1 t2 (negsuc 49999) (pos 100000)) sound rows e,
       )
 
   -- ---- what is known of every answer

@@ -1,2 +1,1 @@
 pub mod Queries
-pub mod Inner

@@ -16,8 +16,7 @@ use Rattle.skiplist.specs.Skip as Skip
 use Rattle.visit.specs.declared.Log.{Log}
 use Rattle.visit.specs.declared.Query.{Query}
 use Rattle.walk.specs.declared.Cursor.{Cursor}
-use Rattle.walk.specs.declared.SkipWalk.{SkipWalk}
-use Rattle.walk.specs.Seek.{isLast, skipWalk, reachedBy, startOf}
+use Rattle.walk.specs.Seek.{SkipWalk, isLast, skipWalk, reachedBy, startOf}
 use Rattle.walk.specs.Advance.{advanceOf}
 use Rattle.found.specs.Found.{rowsFrom, closedFound, foundRows}
 use Rattle.store.specs.World.{livenessOf}

@@ -15,8 +15,7 @@ use Rattle.skiplist.specs.declared.Pointer.{Pointer}
 use Rattle.skiplist.specs.Skip.{none, isLive}
 use Rattle.header.specs.declared.Header.{Header}
 use Rattle.header.proofs.HeaderRead.{headerOf}
-use Rattle.walk.specs.declared.SkipWalk.{SkipWalk}
-use Rattle.walk.specs.Seek.{headerAt, hopAt, hop, hops, skipWalk}
+use Rattle.walk.specs.Seek.{SkipWalk, headerAt, hopAt, hop, hops, skipWalk}
 use Rattle.questions.specs.Queries.{logOf}
 use Rattle.paper_log.specs.Log.{Lift, among, joined}
 use Rattle.refinement.specs.Inner.Segments as S

@@ -1,13 +1,14 @@
 // The answer of a search (document 01, "Search"): what is found is counted first, then written.
 mod write;
 
-use flash::PAGE_BYTES;
 use found::DAMAGE;
 use visit::Log;
 use visit::Query;
 use walk::Cursor;
 ghost use mathlib.Core.Path.{_≡_};
 ghost use Prim.Native.Nat.{_≤_};
+ghost use lib.ListN.{length};
+ghost use Rattle.flash.specs.Chip.{pageWidth};
 ghost use Rattle.skiplist.specs.Skip.{serialsFrom};
 ghost use Rattle.visit.specs.Inner.Sound.{LogSound};
 ghost use Rattle.found.specs.Found.{foundRows};
@@ -30,21 +31,16 @@ struct Writing {
 }
 
 // Grounds 10 and 12, then the rows. No row is written before the answer is known.
-pub fn search_in(
-    nand: &[u8],
-    nor: &[u8],
-    page: [u8; PAGE_BYTES],
-    g: Log,
-    q: Query,
-    area: &mut [u8],
-) -> Found
+pub fn search_in(nand: &[u8], nor: &[u8], page: &[u8], g: Log, q: Query, area: &mut [u8]) -> Found
     requires { ⌜ LogSound (now nand) (now nor) g ⌝ }
+    requires { ⌜ length (now page) ≡ pageWidth ⌝ }
     requires { ⌜ 1 ≤ q .k1 ⌝ }
     ensures { λ r. ⌜ _≡_ {A = SearchAnswer} (record { number = r .number; count = r .count; area = now (area .exit) })
-        (searchAnswer (now (area .entry)) (foundRows (now (nand .entry)) (now (nor .entry)) page g (serialsFrom (g .oldest)) q)) ⌝ }
+        (searchAnswer (now (area .entry))
+        (foundRows (now (nand .entry)) (now (nor .entry)) (now (page .entry)) g (serialsFrom (g .oldest)) q)) ⌝ }
 {
     let c = walk::start_of(nand, g, q);
-    let n = found::count_all(nand, nor, &page, g, q, c);
+    let n = found::count_all(nand, nor, page, g, q, c);
     let good = n.good;
     if !good {
         return Found {
@@ -60,7 +56,7 @@ pub fn search_in(
             count: 0,
         };
     }
-    write::write_all(area, nand, nor, &page, g, q, c, total);
+    write::write_all(area, nand, nor, page, g, q, c, total);
     Found {
         number: 0,
         count: total,

@@ -101,7 +101,12 @@ fn write_on(area: &mut [u8], nand: &[u8], slots: u64, oldest: u32, q: Query, w: 
 {
     let c = w.c;
     let row = w.row;
-    let step = walk::advance(nand, slots, oldest, q, c);
+    if walk::at_end(c, oldest) {
+        return Writing { done: true, c, row };
+    }
+    let p = c.next;
+    let seen = walk::look(nand, slots, q, p.slot, c.before);
+    let step = walk::step_of(p.slot, seen);
     match step {
         Step::End => Writing { done: true, c, row },
         Step::Damage => Writing { done: true, c, row },

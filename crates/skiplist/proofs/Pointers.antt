@@ -1,5 +1,5 @@
 -- Pointers in bytes: decode of encode, and lengths, over the width of the serial. Assumes nothing.
-use mathlib.Core.Path.{_≡_, sym, ap, _∙_}
+use mathlib.Core.Path.{_≡_, sym, ap, ap₂, _∙_}
 use mathlib.Core.List.{List, [], _∷_, _++_, append-assoc, append-nil}
 use Prim.Native.Nat.{ℕ, zero, suc, _+_, _*_, _^_, _≤_, _<_}
 use native.Mathlib.Nat.{mul-le-mul-right}
@@ -7,8 +7,8 @@ use native.Mathlib.Omega.{arith}
 use lib.ListN.{length, getD, length-append}
 use Rattle.codec.specs.Area.{part, splice}
 use Rattle.codec.specs.Number.{le, bytes, numberAt}
-use Rattle.codec.proofs.Areas.{splice-next, part-part, part-all, part-append-left, part-append-right}
-use Rattle.codec.proofs.Numbers.{length-bytes, le-bytes}
+use Rattle.codec.proofs.Areas.{splice-next, part-add, part-part, part-all, part-append-left, part-append-right}
+use Rattle.codec.proofs.Numbers.{length-bytes, le-bytes, put-get}
 use Rattle.form.specs.declared.Form.{Form}
 use Rattle.form.specs.declared.Form.the-variants.{Old, New}
 use Rattle.form.specs.Forms.{serialWidth, pointerWidth}
@@ -170,3 +170,32 @@ module _ (f : Form) where
       there k l m =
           sym (part-part s at (4 * w) (k * w) w h m) ∙ ap (λ (t : List ℕ). part t (k * w) w) e
           ∙ pointer-in (a ∷ b ∷ c ∷ d ∷ []) k a l
+
+-- pointers read from bytes and written give the same bytes
+module _ (f : Form) (s : List ℕ) (small : (i : ℕ) → getD s i 0 < 256) where
+  pointer-kept : (at : ℕ) → at + pointerWidth f ≤ length s → pointerBytes f (pointerAt f s at) ≡ part s at (pointerWidth f)
+  unfolding pointerBytes pointerAt
+  pointer-kept at h =
+      let w = serialWidth f in
+      let n : 2 + (w + 8) ≡ 10 + w = omega arith in
+      ap₂ _++_ (put-get s at 2 (omega arith) small) (ap₂ _++_ (put-get s (at + 2) w (omega arith) small) (put-get s (at + 2 + w) 8 (omega arith) small)
+      ∙ sym (part-add s (at + 2) w 8))
+      ∙ sym (part-add s at 2 (w + 8)) ∙ ap (part s at) n
+
+  pub pointers-kept : (at : ℕ) → at + 4 * pointerWidth f ≤ length s → pointersBytes f (pointersAt f s at) ≡ part s at (4 * pointerWidth f)
+  unfolding pointersBytes pointersAt
+  pointers-kept at h =
+      let w = pointerWidth f in
+      let all : w + (w + (w + w)) ≡ 4 * w = omega arith in
+      let two : at + w + w ≡ at + 2 * w = omega arith in
+      let three : at + 2 * w + w ≡ at + 3 * w = omega arith in
+      let a = pointer-kept at (omega arith) in
+      let b = pointer-kept (at + w) (omega arith) in
+      let c = pointer-kept (at + 2 * w) (omega arith) in
+      let d = pointer-kept (at + 3 * w) (omega arith) in
+      ap₂ _++_ a (ap₂ _++_ b (ap₂ _++_ c (ap (λ (l : List ℕ). l ++ []) d ∙ append-nil _)))
+      ∙ ap (λ (l : List ℕ). part s at w ++ (part s (at + w) w ++ l))
+      (ap (λ (k : ℕ). part s (at + 2 * w) w ++ part s k w) (sym three) ∙ sym (part-add s (at + 2 * w) w w))
+      ∙ ap (λ (l : List ℕ). part s at w ++ l)
+      (ap (λ (k : ℕ). part s (at + w) w ++ part s k (w + w)) (sym two) ∙ sym (part-add s (at + w) w (w + w)))
+      ∙ sym (part-add s at w (w + (w + w))) ∙ ap (part s at) all

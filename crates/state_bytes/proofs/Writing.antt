@@ -1,6 +1,6 @@
 -- The state written field by field: writes side by side are one write. Assumes nothing.
 use mathlib.Core.Path.{_≡_, refl, sym, ap, _∙_}
-use mathlib.Core.List.{List, [], _∷_, _++_, append-assoc, map}
+use mathlib.Core.List.{List, [], _∷_, _++_, append-assoc, append-nil, map}
 use Prim.Native.Nat.{ℕ, _+_, _*_, _≤_}
 use native.Mathlib.Omega.{arith}
 use lib.IntN.{ℤ}
@@ -10,7 +10,7 @@ use Rattle.codec.specs.Number.{bytes}
 use Rattle.codec.proofs.Areas.{length-part, part-before, part-after, part-splice, length-splice, splice-part, splice-all}
 use Rattle.codec.proofs.Numbers.{length-bytes}
 use Rattle.form.specs.declared.Form.{Form}
-use Rattle.form.specs.declared.Form.the-variants.{Old}
+use Rattle.form.specs.declared.Form.the-variants.{Old, New}
 use Rattle.form.specs.Forms.{pointerWidth}
 use Rattle.skiplist.specs.declared.Pointer.{Pointer}
 use Rattle.skiplist.specs.PointerBytes.{pointersBytes}
@@ -24,8 +24,8 @@ use Rattle.loads.proofs.Loads.{length-load, length-loads}
 use Rattle.state_bytes.specs.declared.pieces.Counters.{Counters}
 use Rattle.state_bytes.specs.declared.pieces.Span.{Span}
 use Rattle.state_bytes.specs.StateBytes.{liveWidth, headsFrom, loadsFrom, areaLength}
-use Rattle.state_bytes.specs.StateBytes.{bytesIn, oldStateBytes}
-use Rattle.state_bytes.specs.Inner.Fields.{countersOf, spanOf, countersBytes, spanBytes, fieldsBytes}
+use Rattle.state_bytes.specs.StateBytes.{bytesIn, stateBytes, oldStateBytes}
+use Rattle.state_bytes.specs.Inner.Fields.{countersOf, spanOf, countersBytes, spanBytes, fieldsBytes, fieldsKept}
 
 -- ---- lengths
 
@@ -136,6 +136,41 @@ module _ (f : Form) where
       ∙ part-before s (loadsFrom f + 52) (t .page) (omega arith) 19 (liveWidth f) (omega arith) in
       let g : _≡_ {A = Span} (record { start = t .start; low = low; high = high }) (spanOf t) = rw (el, eh) in
       d ∙ same-fields _ _ _ _ _ _ _ _ _ _ _ _ _ _ v refl refl refl p refl g ∙ fields-flat _ t
+
+-- three groups of fields around the heads and the buffers, which stay; in form 1
+pub rest-put : (s s1 s2 s3 : List ℕ) (c : Counters) (loads : List ℤ) (span : Span) → length s ≡ 783 → length loads ≡ 13
+    → s1 ≡ splice s 0 (countersBytes c) → s2 ≡ splice s1 75 (loadsBytes loads) → s3 ≡ splice s2 767 (spanBytes span)
+    → s3 ≡ fieldsKept (part s 19 56) c loads (part s 127 512) (part s 639 128) span
+unfolding fieldsKept
+rest-put s s1 s2 s3 c loads span l ll e1 e2 e3 =
+    let A = countersBytes c in
+    let H = part s 19 56 in
+    let C = loadsBytes loads in
+    let P = part s 127 512 in
+    let B = part s 639 128 in
+    let a : length (A ++ []) ≡ 19 = length-append A [] ∙ omega (arith, length-counters c) in
+    let h : length H ≡ 56 = length-part s 19 56 (omega arith) in
+    let k : length C ≡ 52 = length-loads loads ∙ omega arith in
+    let p : length P ≡ 512 = length-part s 127 512 (omega arith) in
+    let b : length B ≡ 128 = length-part s 639 128 (omega arith) in
+    let g = length-span span in
+    let n1 = length-append (A ++ []) H in
+    let n2 = length-append ((A ++ []) ++ H) C in
+    let n3 = length-append (((A ++ []) ++ H) ++ C) P in
+    let n4 = length-append ((((A ++ []) ++ H) ++ C) ++ P) B in
+    let n5 = length-append (((((A ++ []) ++ H) ++ C) ++ P) ++ B) (spanBytes span) in
+    let f1 = stays s s1 (A ++ []) 19 56 (e1 ∙ ap (splice s 0) (sym (append-nil A))) a (omega arith) in
+    let f2 = more s s1 s2 0 ((A ++ []) ++ H) 75 C f1 e2 (omega arith) (omega arith) in
+    let f3 = stays s s2 (((A ++ []) ++ H) ++ C) 127 512 f2 (omega arith) (omega arith) in
+    let f4 = stays s s2 ((((A ++ []) ++ H) ++ C) ++ P) 639 128 f3 (omega arith) (omega arith) in
+    let f5 = more s s2 s3 0 (((((A ++ []) ++ H) ++ C) ++ P) ++ B) 767 (spanBytes span) f4 e3 (omega arith) (omega arith) in
+    f5 ∙ splice-all s _ (omega arith)
+
+-- they are a state's, where the heads that stand there are its own
+pub kept-flat : (heads : List ℕ) (t : State) → heads ≡ pointersBytes New (t .heads)
+    → fieldsKept heads (countersOf t) (t .loads) (t .page) (t .bloom) (spanOf t) ≡ stateBytes t
+unfolding fieldsKept fieldsBytes stateBytes
+kept-flat heads t e = rw e (fields-flat New [] t)
 
 -- form 0: the oldest live time, then the fields of both forms
 pub old-state-put : (s s1 s2 : List ℕ) (o : OldState) → length s ≡ 775 → s1 ≡ splice s 19 (bytes 8 (o .live))

@@ -1,5 +1,5 @@
 // The pieces of a state's area that a lift written in place shares with the whole state: where each field stands, and the fields around
-// the page buffer. They are no calls: not for others than this crate and `in_place`.
+// the page buffer. They are no calls: not for others than this crate, `in_place` and `area_reads`.
 use bloom::SECTION_BYTES;
 use form::Form;
 use lift::LOADS_KEPT;
@@ -8,9 +8,10 @@ use skiplist::Pointer;
 ghost use mathlib.Core.Path.{_≡_};
 ghost use Prim.Native.Nat.{_+_, _≤_};
 ghost use lib.ListN.{length};
+ghost use Rattle.form.specs.declared.Form.the-variants.{New};
 ghost use Rattle.codec.specs.Area.{part, splice};
 ghost use Rattle.state_bytes.specs.StateBytes.{liveWidth, headsFrom, loadsFrom, areaLength};
-ghost use Rattle.state_bytes.specs.Inner.Fields.{countersBytes, spanBytes, fieldsBytes};
+ghost use Rattle.state_bytes.specs.Inner.Fields.{countersBytes, spanBytes, fieldsBytes, fieldsKept};
 
 // Where each field stands; those of form 0 alone have OLD in their name.
 pub const OLDEST_AT: usize = 0;
@@ -141,4 +142,15 @@ pub fn put_around(
     loads::put_loads(b, at, loads);
     codec::copy(b, at + BLOOM_BEHIND, &section);
     put_span(b, at + START_BEHIND, s);
+}
+
+// In form 1: everything but the heads and the buffers, which stay as they stand.
+pub fn put_rest(b: &mut [u8], c: Counters, loads: [i32; LOADS_KEPT], s: Span)
+    requires { ⌜ length (now b) ≡ areaLength New ⌝ }
+    ensures { λ _. ⌜ now (b .exit) ≡ fieldsKept (part (now (b .entry)) (headsFrom New) 56) c loads
+        (part (now (b .entry)) (loadsFrom New + 52) 512) (part (now (b .entry)) (loadsFrom New + 564) 128) s ⌝ }
+{
+    put_counters(b, c);
+    loads::put_loads(b, LOADS_AT, loads);
+    put_span(b, START_AT, s);
 }

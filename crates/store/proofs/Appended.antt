@@ -12,7 +12,7 @@ use borrow.Author.Tests.{ne-eqb}
 use Rattle.tree.specs.Plan as Tree
 use Rattle.tree.specs.Plan.{isNoRoom}
 use Rattle.bounds.specs.Grounds.{nandBad, norBad, liftGround}
-use Rattle.bounds.proofs.Within.{lift-then}
+use Rattle.bounds.proofs.Within.{lift-then, lift-within}
 use Rattle.form.specs.declared.Form.the-variants.{New}
 use Rattle.grow.specs.declared.Plan.{Plan}
 use Rattle.grow.specs.declared.Plan.the-variants.{Damage, Full, Root, Entry, Child, Split}
@@ -21,7 +21,7 @@ use Rattle.store.specs.declared.State.{State}
 use Rattle.store.specs.Bounds.{withinBounds}
 use Rattle.store.specs.World.{World, world, closeWorld, movedOn, dropWorld, withoutOldest, liveAfter, putWorld}
 use Rattle.store.specs.Calls.{planOf, roomWorld, appendGround, dropsFirst}
-use Rattle.store.specs.Inner.Pieces.{Suits, dropDue, entryGround, laterGround, carriedOut, boundsGround}
+use Rattle.store.specs.Inner.Pieces.{Suits, Accepted, dropDue, entryGround, laterGround, carriedOut, boundsGround}
 use Rattle.store.proofs.Rows.{row-same, row-later, row-none}
 use Rattle.store.proofs.Grounds.{Standing}
 use Rattle.store.proofs.Outcomes.{stands}
@@ -83,7 +83,7 @@ pub record Droppable (s : State) : Type 0 where
   pub rising : s .oldest ≤ s .current
 
 module _ (nand nor : List ℕ) (s : State) (slots : ℕ) (st : Standing s (length nand) (length nor) slots) (p : Plan)
-    (suits : Suits s p) where
+    (suits : Suits (s .buckets) (s .count) p) where
   abbrev before : World
   before = world nand nor s
 
@@ -195,3 +195,14 @@ module _ (nand nor : List ℕ) (s : State) (slots time : ℕ) (load : ℤ) (n : 
             → cond (eqb (liftGround time load (s .next) (s .current) 0) 0) more
             (liftGround time load (s .next) (s .current) 0) ≡ more
         past f = rw f
+
+    -- what holds where it is 0
+    pub planned-is : (q : Plan) → meaning q ≡ p → Suits (s .buckets) (s .count) q → Accepted w slots time load q
+    planned-is q e suits =
+        let t = entered s (length nand) (length nor) slots time load (sym judged ∙ zero) in
+        record {
+          bounds = t .bounds;
+          suits = suits;
+          load-ok = lift-within _ _ _ _ (t .lift) .load-ok;
+          is = e ∙ planned;
+        }

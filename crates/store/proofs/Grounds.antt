@@ -17,6 +17,7 @@ use Rattle.skiplist.specs.Skip.{inSlots}
 use Rattle.store.specs.declared.State.{State}
 use Rattle.store.specs.Bounds.{headsOk, withinBounds}
 use Rattle.store.proofs.Rows.{row}
+use Rattle.store.specs.Inner.Fields.{fieldsOf, Sized}
 use Rattle.store.specs.Inner.Pieces.{boundsGround}
 
 -- ---- ground 3
@@ -112,6 +113,20 @@ standing-in f s live nand nor slots e =
 pub standing : (s : State) (nand nor slots : ℕ) → boundsGround New s 0 nand nor slots ≡ 0 → Standing s nand nor slots
 unfolding boundsGround
 standing s nand nor slots e = standing-in New s 0 nand nor slots e
+
+-- what the plan goes by
+pub sized : (nand nor : List ℕ) (s : State) (slots : ℕ) → Standing s (length nand) (length nor) slots → Sized nand nor slots (fieldsOf s)
+sized nand nor s slots st =
+    record {
+      nand-size = st .chips .nand-size;
+      nor-size = st .chips .nor-size;
+      slots-some = omega (arith, st .chips .least);
+      current-some = omega (arith, st .serials .first, st .serials .rising);
+      rising = st .serials .rising;
+      most = st .counts .lifts;
+      buckets-most = st .counts .few;
+      loads-ok = st .loads;
+    }
 
 -- the same where a call has judged them and found none
 pub standing-judged : (s : State) (nand nor slots n : ℕ) → n ≡ boundsGround New s 0 nand nor slots → n ≡ 0 → Standing s nand nor slots

@@ -1,20 +1,18 @@
--- An append by its number and its plan: refused, or carried out; a plain one enters the tree, and its record and bits go into the
--- buffers, nothing else. By the tests that a plain lift passes. Assumes nothing.
-use mathlib.Core.Path.{_≡_, refl, sym, ap, subst, _∙_}
-use mathlib.Core.Bool.{Bool, true, false, not, _||_, false≢true}
+-- An append by its number and its plan: refused, or carried out; a plain lift is put into the open segment as it is. By the tests that a
+-- plain lift passes. Assumes nothing.
+use mathlib.Core.Path.{_≡_, refl, ap, subst, _∙_}
+use mathlib.Core.Bool.{Bool, true, false, not, _&&_, _||_, false≢true}
 use mathlib.Core.List.{List}
-use Prim.Native.Nat.{ℕ, _+_, _%_}
-use native.Mathlib.Omega.{arith}
-use lib.Dec.{eqb}
+use Prim.Native.Nat.{ℕ, _-_}
+use lib.Dec.{eqb, leb}
 use lib.IntN.{ℤ}
-use borrow.Author.Tests.{ne-eqb, eqb-false}
-use Rattle.lift.specs.Limits.{stored}
 use Rattle.tree.specs.Plan as Tree
 use Rattle.tree.specs.Plan.{isNoRoom}
-use Rattle.tree.specs.Writes.{writesOf, allWritten, bucketsAfter}
 use Rattle.grow.specs.declared.Plan.{Plan}
 use Rattle.store.specs.declared.State.{State}
-use Rattle.store.specs.World.{World, world, putWorld, nandWith, norWith, stateWith, liveWith, pageWith, bloomWith, fillsPage, stateGiven}
+use Rattle.store.specs.declared.fields.Fields.{Fields}
+use Rattle.store.specs.Inner.Fields.{fieldsOf}
+use Rattle.store.specs.World.{World, world, putWorld}
 use Rattle.store.specs.Calls.{Outcome, planOf, roomWorld, appendGround, appendWorld, appendOutcome, dropsFirst}
 use Rattle.store.specs.Inner.Pieces.{Accepted, dropDue, isPlain, carriedOut}
 use Rattle.store.proofs.Outcomes.{refuses, accepts}
@@ -46,46 +44,30 @@ module _ (w : World) (slots time : ℕ) (z load : ℤ) (k : z ≡ load) where
 pub record Plain (s : State) (slots : ℕ) (p : Tree.Plan) : Type 0 where
   pub roomy : isNoRoom p ≡ false
   pub kept : dropsFirst s slots ≡ false
-  pub page : fillsPage s ≡ false
 
-pub plain-test : (s : State) (slots : ℕ) (p : Tree.Plan) (full drops : Bool) → full ≡ isNoRoom p → drops ≡ dropsFirst s slots
-    → not ((full || drops) || fillsPage s) ≡ isPlain s slots p
+pub plain-test : (s : State) (slots : ℕ) (p : Tree.Plan) (f : Fields) (full drops : Bool) → fieldsOf s ≡ f → full ≡ isNoRoom p
+    → drops ≡ (eqb (f .count) 0 && leb slots (f .current - f .oldest)) → not (full || drops) ≡ isPlain s slots p
 unfolding isPlain
-plain-test s slots p full drops e f = rw (e, f)
+plain-test s slots p f full drops same e g =
+    subst (λ (t : Fields). drops ≡ (eqb (t .count) 0 && leb slots (t .current - t .oldest))
+    → not (full || drops) ≡ isPlain s slots p) same (λ h. rw (e, h)) g
 
-none-of : (a b c : Bool) → not ((a || b) || c) ≡ true → (a ≡ false) × (b ≡ false) × (c ≡ false)
-none-of true b c e = absurd (false≢true e)
-none-of false true c e = absurd (false≢true e)
-none-of false false true e = absurd (false≢true e)
-none-of false false false e = (refl, refl, refl)
+none-of : (a b : Bool) → not (a || b) ≡ true → (a ≡ false) × (b ≡ false)
+none-of true b e = absurd (false≢true e)
+none-of false true e = absurd (false≢true e)
+none-of false false e = (refl, refl)
 
 pub plain : (s : State) (slots : ℕ) (p : Tree.Plan) → isPlain s slots p ≡ true → Plain s slots p
 unfolding isPlain
-plain s slots p e =
-    let t = none-of (isNoRoom p) (dropsFirst s slots) (fillsPage s) e in
-    record { roomy = t .0; kept = t .1; page = t .2 }
+plain s slots p e = let t = none-of (isNoRoom p) (dropsFirst s slots) e in record { roomy = t .0; kept = t .1 }
 
--- the last lift of a section is the last of its page
-no-section : (n : ℕ) → eqb (n % 16) 15 ≡ false → eqb (n % 64) 63 ≡ false
-no-section n e = let h = eqb-false (n % 16) 15 e in ne-eqb (n % 64) 63 (λ k. h (omega arith))
+stays : (nand nor : List ℕ) (s : State) (slots : ℕ) (p : Tree.Plan) → Plain s slots p
+    → dropDue (roomWorld (world nand nor s) slots p) slots ≡ world nand nor s
+unfolding dropDue roomWorld
+stays nand nor s slots p is = rw (is .roomy, is .kept)
 
-module _ (nand nor : List ℕ) (s : State) (slots time : ℕ) (load : ℤ) (note : List ℕ) (p : Tree.Plan) (is : Plain s slots p) where
-  due : dropDue (roomWorld (world nand nor s) slots p) slots ≡ world nand nor s
-  unfolding dropDue roomWorld
-  due = rw (is .roomy, is .kept)
-
-  put : putWorld (world nand nor s) slots time load note p
-      ≡ world nand (allWritten nor (writesOf p (s .buckets) (stored load) (s .count)))
-      (stateGiven s time load time (bucketsAfter p (s .buckets)) (pageWith s time load note) (bloomWith s load))
-  unfolding putWorld nandWith norWith stateWith liveWith stateGiven
-  put = let last : time + 0 ≡ time = omega arith in rw (last, is .page, no-section (s .count) (is .page))
-
-  carried : carriedOut (world nand nor s) slots time load note p ≡ putWorld (world nand nor s) slots time load note p
-  unfolding carriedOut
-  carried = ap (λ (t : World). putWorld t slots time load note p) due
-
-  -- the world that its pieces leave
-  pub plain-made : (nor' : List ℕ) → nor' ≡ allWritten nor (writesOf p (s .buckets) (stored load) (s .count))
-      → world nand nor' (stateGiven s time load time (bucketsAfter p (s .buckets)) (pageWith s time load note) (bloomWith s load))
-      ≡ carriedOut (world nand nor s) slots time load note p
-  plain-made nor' e = rw e (sym (carried ∙ put))
+-- it is put, and that is all
+pub plain-made : (nand nor : List ℕ) (s : State) (slots time : ℕ) (load : ℤ) (note : List ℕ) (p : Tree.Plan) → Plain s slots p
+    → carriedOut (world nand nor s) slots time load note p ≡ putWorld (world nand nor s) slots time load note p
+unfolding carriedOut
+plain-made nand nor s slots time load note p is = ap (λ (t : World). putWorld t slots time load note p) (stays nand nor s slots p is)

@@ -1,6 +1,6 @@
 -- What the parts of an append's lift make: the buffers, NAND, NOR and the state after it. By the tests at a page's sixteenth and a
 -- section's sixty-fourth lift. Assumes nothing.
-use mathlib.Core.Path.{_≡_, refl, sym, ap, _∙_}
+use mathlib.Core.Path.{_≡_, refl, sym, ap, subst, _∙_}
 use mathlib.Core.Bool.{Bool, true, false, cond, not, _&&_, _||_, false≢true}
 use mathlib.Core.List.{List, [], _∷_, map}
 use Prim.Native.Nat.{ℕ, zero, suc, _+_, _-_, _*_, _/_, _%_, _≤_, _<_}
@@ -27,6 +27,8 @@ use Rattle.grow.specs.Inner.Meaning.{meaning, Fitting}
 use Rattle.store.specs.declared.State.{State}
 use Rattle.store.specs.World.{world, putWorld, stateWith, liveWith, pageWith, bloomWith, fillsPage, fillsSection, nandWith, norWith, stateGiven}
 use Rattle.store.specs.Calls.{planOf, norClear}
+use Rattle.store.specs.declared.fields.Fields.{Fields}
+use Rattle.store.specs.Inner.Fields.{fieldsOf}
 use Rattle.store.specs.Inner.Pieces.{Suits}
 
 -- ---- the plan
@@ -49,24 +51,28 @@ module _ (tree : List ℕ) (buckets : ℕ) (codes : List ℕ) (code n : ℕ) whe
       go true u = let v : n ≡ 320 = eqb-true n 320 u in absurd (false≢true (sym (rw v at e)))
       go false u = let v = eqb-false n 320 u in omega arith
 
-module _ (s : State) (nor tree : List ℕ) (codes : List ℕ) (code : ℕ) (p : Plan) (cut : tree ≡ norTree nor)
-    (past : codes ≡ map stored (s .loads))
-    (is : meaning p ≡ planOn tree (s .buckets) (s .count) codes code) where
-  pub planned : (load : ℤ) → code ≡ stored load → meaning p ≡ planOf (world [] nor s) load
-  planned load e = is ∙ rw (cut, past, e)
+module _ (f : Fields) (nor tree : List ℕ) (codes : List ℕ) (code : ℕ) (p : Plan) (cut : tree ≡ norTree nor)
+    (past : codes ≡ map stored (f .loads))
+    (is : meaning p ≡ planOn tree (f .buckets) (f .count) codes code) where
+  pub planned : (s : State) (load : ℤ) → fieldsOf s ≡ f → code ≡ stored load → meaning p ≡ planOf (world [] nor s) load
+  planned s load same e =
+      is
+      ∙ ap (λ (t : Fields). planOn tree (t .buckets) (t .count) codes code) (sym same)
+      ∙ rw (cut, e) (ap (λ (l : List ℕ). planOn (norTree nor) (s .buckets) (s .count) l (stored load))
+      (past ∙ ap (λ (t : Fields). map stored (t .loads)) (sym same)))
 
-  pub suited : s .count ≤ 320 → Fitting (s .buckets) p → Suits s p
-  suited h f = record {
-    fits = f;
-    full = λ e. some-full (s .count) (ap isNoRoom (sym is) ∙ e);
-    room = λ e. room-left (s .count) h (ap isNoRoom (sym is) ∙ e);
+  pub suited : f .count ≤ 320 → Fitting (f .buckets) p → Suits (f .buckets) (f .count) p
+  suited h t = record {
+    fits = t;
+    full = λ e. some-full (f .count) (ap isNoRoom (sym is) ∙ e);
+    room = λ e. room-left (f .count) h (ap isNoRoom (sym is) ∙ e);
   }
     where
-      some-full : (n : ℕ) → isNoRoom (planOn tree (s .buckets) n codes code) ≡ true → 1 ≤ n
-      some-full = λ n. full-some tree (s .buckets) codes code n
+      some-full : (n : ℕ) → isNoRoom (planOn tree (f .buckets) n codes code) ≡ true → 1 ≤ n
+      some-full = λ n. full-some tree (f .buckets) codes code n
 
-      room-left : (n : ℕ) → n ≤ 320 → isNoRoom (planOn tree (s .buckets) n codes code) ≡ false → n < 320
-      room-left = λ n. left-room tree (s .buckets) codes code n
+      room-left : (n : ℕ) → n ≤ 320 → isNoRoom (planOn tree (f .buckets) n codes code) ≡ false → n < 320
+      room-left = λ n. left-room tree (f .buckets) codes code n
 
 -- the last loads as stored are at most 150,001
 pub codes-most : (loads : List ℤ) → loadsOk loads ≡ true → (k : ℕ) → getD (map stored loads) k 0 ≤ 150001
@@ -84,12 +90,26 @@ tree-long nor tree e size = omega (arith, ap length e ∙ length-part nor 0 4608
 
 -- ---- NOR bytes due for writing
 
-pub clear-all : (s : State) (nor : List ℕ) (ws : Writes) (code : ℕ) (load : ℤ) (p : Tree.Plan) (a b : Bool) → code ≡ stored load
+all-tested : (s : State) (nor : List ℕ) (ws : Writes) (code : ℕ) (load : ℤ) (p : Tree.Plan) (a b : Bool) → code ≡ stored load
     → ws ≡ writesOf p (s .buckets) code (s .count) → a ≡ allClear nor ws
     → b ≡ (not (eqb (s .count % 64) 63) || allOnes (part nor (4608 + s .count / 64 * 128) 128))
     → (a && b) ≡ norClear (world [] nor s) load p
 unfolding norClear
-clear-all s nor ws code load p a b k e f g = rw (f, g, e, k)
+all-tested s nor ws code load p a b k e f g = rw (f, g, e, k)
+
+pub clear-all : (s : State) (f : Fields) (nor : List ℕ) (ws : Writes) (code : ℕ) (load : ℤ) (p : Tree.Plan) (a b : Bool) → fieldsOf s ≡ f
+    → code ≡ stored load → ws ≡ writesOf p (f .buckets) code (f .count) → a ≡ allClear nor ws
+    → b ≡ (not (eqb (f .count % 64) 63) || allOnes (part nor (4608 + f .count / 64 * 128) 128))
+    → (a && b) ≡ norClear (world [] nor s) load p
+clear-all s f nor ws code load p a b same k e c g =
+    subst (λ (t : Fields). ws ≡ writesOf p (t .buckets) code (t .count)
+    → b ≡ (not (eqb (t .count % 64) 63) || allOnes (part nor (4608 + t .count / 64 * 128) 128))
+    → (a && b) ≡ norClear (world [] nor s) load p) same tested e g
+  where
+    tested : ws ≡ writesOf p (s .buckets) code (s .count)
+        → b ≡ (not (eqb (s .count % 64) 63) || allOnes (part nor (4608 + s .count / 64 * 128) 128))
+        → (a && b) ≡ norClear (world [] nor s) load p
+    tested u v = all-tested s nor ws code load p a b k u c v
 
 -- ---- the lift
 

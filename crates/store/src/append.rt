@@ -6,14 +6,15 @@ pub mod pieces;
 
 use crate::Answer;
 use crate::State;
+use crate::fields::Fields;
 use flash::PAGE_BYTES;
 use form::Form;
 use grow::Plan;
 use lift::NOTE_BYTES;
 ghost use mathlib.Core.Path.{_≡_};
-ghost use mathlib.Core.Bool.{true, false, cond};
-ghost use mathlib.Core.List.{List, []};
-ghost use Prim.Native.Nat.{ℕ, _+_, _-_, _*_, _%_, _≤_, _<_};
+ghost use mathlib.Core.Bool.{true, cond};
+ghost use mathlib.Core.List.{[]};
+ghost use Prim.Native.Nat.{_+_, _-_, _*_, _%_, _≤_};
 ghost use lib.IntN.{ℤ};
 ghost use lib.ListN.{length};
 ghost use Rattle.tree.specs.Rules.{bucketsMost};
@@ -22,12 +23,11 @@ ghost use Rattle.flash.specs.Chip.{erasedPage, norWidth, slotWidth};
 ghost use Rattle.lift.specs.Limits.{loadOk, stored};
 ghost use Rattle.bloom.specs.Bloom.{emptySection};
 ghost use Rattle.form.specs.declared.Form.the-variants.{New};
-ghost use Rattle.tree.specs.Plan.{noRoom, isDamaged, isNoRoom};
 ghost use Rattle.grow.specs.Inner.Meaning.{meaning, Fitting};
-ghost use Rattle.bounds.specs.Bounds.{loadsOk};
 ghost use Rattle.store.specs.World.{world, putWorld, nandWith, norWith, stateGiven, pageWith, bloomWith, fillsPage, fillsSection};
-ghost use Rattle.store.specs.Calls.{returned, appendOutcome, planOf, roomWorld, norClear, dropsFirst};
-ghost use Rattle.store.specs.Inner.Pieces.{Suits, laterGround, dropDue, entryGround, boundsGround};
+ghost use Rattle.store.specs.Calls.{returned, appendOutcome, roomWorld};
+ghost use Rattle.store.specs.Inner.Fields.{fieldsOf};
+ghost use Rattle.store.specs.Inner.Pieces.{Suits, dropDue, entryGround, boundsGround};
 
 impl State {
     // Grounds 1 to 8.
@@ -41,83 +41,23 @@ impl State {
         bounds::lift_ground(time, load, self.next, self.current)
     }
 
-    // Where the load goes, by the buckets on its path.
-    fn plan(self, nor: &[u8], code: u32) -> Plan
-        requires { ⌜ (length (now nor) ≡ norWidth) × (self .buckets ≤ bucketsMost) × (self .count ≤ liftsMost) × (loadsOk (self .loads) ≡ true) ⌝ }
-        ensures is { λ r. ⌜ ((load : ℤ) → code ≡ stored load → meaning r ≡ planOf (world [] (now (nor .entry)) self) load) ⌝ }
-        ensures suits { λ r. ⌜ Suits self r ⌝ }
+    // What the plan goes by.
+    fn fields(self) -> Fields
+        ensures { λ r. ⌜ r ≡ fieldsOf self ⌝ }
     {
         let loads = self.loads;
-        let codes = bounds::stored_loads(loads);
-        let tree = flash::nor_tree(nor);
-        grow::plan_for(tree, self.buckets, self.count, codes, code)
-    }
-
-    // The first append to this serial drops the oldest closed segment.
-    fn drops_first(self, slots: u64) -> bool
-        requires { ⌜ self .oldest ≤ self .current ⌝ }
-        ensures { λ r. ⌜ r ≡ dropsFirst self slots ⌝ }
-    {
-        (self.count == 0) & (slots <= (self.current - self.oldest) as u64)
-    }
-
-    // Grounds 10 and 11 of an append that closes first: the close erases NOR, so there is no damage.
-    fn blocked_closing(self, nand: &[u8], slots: u64) -> u8
-        requires { ⌜ boundsGround New self 0 (length (now nand)) norWidth slots ≡ 0 ⌝ }
-        ensures { λ r. ⌜ ((nor : List ℕ) (load : ℤ) → length nor ≡ norWidth → r
-            ≡ laterGround (world (now (nand .entry)) nor self) slots load noRoom) ⌝ }
-    {
-        let slot = flash::slot_of(self.current, slots);
-        if !segment::pages_erased(nand, slot, self.count, self.buckets) {
-            return 11;
+        Fields {
+            oldest: self.oldest,
+            current: self.current,
+            count: self.count,
+            buckets: self.buckets,
+            loads: loads,
         }
-        0
-    }
-
-    // All NOR bytes due for writing are 255.
-    fn is_clear(self, nor: &[u8], code: u32, p: Plan) -> bool
-        requires { ⌜ (length (now nor) ≡ norWidth) × (self .buckets ≤ bucketsMost) × (self .count ≤ liftsMost) × Fitting (self .buckets) p ⌝ }
-        ensures { λ r. ⌜ ((load : ℤ) → code ≡ stored load → r ≡ norClear (world [] (now (nor .entry)) self) load (meaning p)) ⌝ }
-    {
-        let w = grow::writes_of(p, self.buckets, code, self.count);
-        grow::clear(nor, w) & append_parts::section_clear(nor, self.count)
-    }
-
-    // Grounds 10 and 11 of an append into the open segment as it is.
-    fn blocked_put(self, nand: &[u8], nor: &[u8], slots: u64, code: u32, p: Plan) -> u8
-        requires { ⌜ (boundsGround New self 0 (length (now nand)) (length (now nor)) slots ≡ 0) × Suits self p ⌝ }
-        requires { ⌜ (isDamaged (meaning p) ≡ false) × (isNoRoom (meaning p) ≡ false) ⌝ }
-        ensures { λ r. ⌜ ((load : ℤ) → code ≡ stored load → r
-            ≡ laterGround (world (now (nand .entry)) (now (nor .entry)) self) slots load (meaning p)) ⌝ }
-    {
-        if !self.is_clear(nor, code, p) {
-            return 10;
-        }
-        let slot = flash::slot_of(self.current, slots);
-        if !append_parts::page_free(nand, slot, self.count) {
-            return 11;
-        }
-        0
-    }
-
-    // Grounds 10 and 11.
-    fn blocked(self, nand: &[u8], nor: &[u8], slots: u64, code: u32, p: Plan) -> u8
-        requires { ⌜ (boundsGround New self 0 (length (now nand)) (length (now nor)) slots ≡ 0) × Suits self p ⌝ }
-        ensures { λ r. ⌜ ((load : ℤ) → code ≡ stored load → r
-            ≡ laterGround (world (now (nand .entry)) (now (nor .entry)) self) slots load (meaning p)) ⌝ }
-    {
-        if append_parts::is_damaged_plan(p) {
-            return 10;
-        }
-        if append_parts::is_full(p) {
-            return self.blocked_closing(nand, slots);
-        }
-        self.blocked_put(nand, nor, slots, code, p)
     }
 
     // A close if it is due.
     fn room(self, nand: &mut [u8], nor: &mut [u8], slots: u64, p: Plan) -> State
-        requires { ⌜ (boundsGround New self 0 (length (now nand)) (length (now nor)) slots ≡ 0) × Suits self p ⌝ }
+        requires { ⌜ (boundsGround New self 0 (length (now nand)) (length (now nor)) slots ≡ 0) × Suits (self .buckets) (self .count) p ⌝ }
         ensures { λ r. ⌜ world (now (nand .exit)) (now (nor .exit)) r
             ≡ roomWorld (world (now (nand .entry)) (now (nor .entry)) self) slots (meaning p) ⌝ }
     {
@@ -132,7 +72,7 @@ impl State {
         requires { ⌜ (length (now nand) ≡ slots * slotWidth) × (1 ≤ slots) × (1 ≤ self .oldest) × (self .oldest ≤ self .current) ⌝ }
         ensures { λ r. ⌜ world (now (nand .exit)) [] r ≡ dropDue (world (now (nand .entry)) [] self) slots ⌝ }
     {
-        if !self.drops_first(slots) {
+        if !append_parts::drops_first(self.oldest, self.current, self.count, slots) {
             return self;
         }
         self.dropped(nand, slots)

@@ -1,6 +1,7 @@
 // The store (document 01, "State", "Segments", "Twelve grounds"; form 1 of document 02, W-202): its state by value, and the calls as
 // methods.
 pub mod append;
+pub mod fields;
 
 use bloom::SECTION_BYTES;
 use flash::PAGE_BYTES;

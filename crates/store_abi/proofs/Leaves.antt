@@ -3,10 +3,12 @@ use mathlib.Core.Path.{_≡_, sym, ap, ap₂}
 use mathlib.Core.Bool.{Bool, true, false, cond, _&&_}
 use mathlib.Core.List.{List, []}
 use Prim.Native.Nat.{ℕ}
+use native.Mathlib.Omega.{arith}
 use lib.Dec.{eqb}
 use lib.ListN.{length}
 use borrow.Author.Tests.{eq-eqb, ne-eqb}
 use Rattle.codec.specs.Number.{bytes}
+use Rattle.codec.proofs.Areas.{length-part}
 use Rattle.plate.specs.declared.Lookup.{Lookup}
 use Rattle.search.specs.Answers.{SearchAnswer}
 use Rattle.tally.specs.Answers.{TallyAnswer}
@@ -15,7 +17,7 @@ use Rattle.store.specs.World.{World, world}
 use Rattle.store.specs.Calls as Calls
 use Rattle.store.specs.Calls.{Outcome}
 use Rattle.loads.specs.Signed.{sideBySide}
-use Rattle.state_bytes.specs.StateBytes.{stateBytes}
+use Rattle.state_bytes.specs.StateBytes.{stateBytes, stateAs, stateIn}
 use Rattle.kept.specs.Kept.{kept}
 use Rattle.store_abi.specs.Areas.{left, leaves, newBytes, called, Answered, replied, repliedIn}
 
@@ -29,6 +31,11 @@ second-wrong m n p q e h = ap₂ _&&_ (eq-eqb m n e) (ne-eqb p q h)
 
 pub both-equal : (m n p q : ℕ) → m ≡ n → p ≡ q → (eqb m n && eqb p q) ≡ true
 both-equal m n p q e f = ap₂ _&&_ (eq-eqb m n e) (eq-eqb p q f)
+
+-- the page buffer has its length
+pub page-size : (area : List ℕ) → length area ≡ 783 → length (stateIn area .page) ≡ 512
+unfolding stateIn stateAs
+page-size area e = length-part area 127 512 (omega arith)
 
 -- ---- calls that write
 

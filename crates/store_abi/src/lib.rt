@@ -6,20 +6,17 @@ use lift::NOTE_BYTES;
 use plate::PLATES;
 use store::State;
 use store::append::pieces;
+use store::fields::Fields;
 ghost use mathlib.Core.Path.{_≡_};
 ghost use mathlib.Core.Bool.{true};
 ghost use mathlib.Core.List.{[]};
-ghost use Prim.Native.Nat.{_≤_};
 ghost use lib.ListN.{length};
 ghost use Rattle.form.specs.declared.Form.the-variants.{New};
-ghost use Rattle.tree.specs.Rules.{bucketsMost};
-ghost use Rattle.lift.specs.Rows.{liftsMost};
-ghost use Rattle.codec.specs.Number.{numberAt};
-ghost use Rattle.lift.specs.Limits.{loadOk, stored};
-ghost use Rattle.tree.specs.Writes.{writesOf, allWritten, bucketsAfter};
-ghost use Rattle.grow.specs.Inner.Meaning.{meaning, Fitting};
-ghost use Rattle.state_bytes.specs.StateBytes.{stateBytes, stateIn, areaLength};
-ghost use Rattle.in_place.specs.Inner.WithLift.{withLift};
+ghost use Rattle.grow.specs.Inner.Meaning.{meaning};
+ghost use Rattle.state_bytes.specs.StateBytes.{stateIn, areaLength};
+ghost use Rattle.store.specs.Inner.Fields.{fieldsOf};
+ghost use Rattle.store.specs.Inner.Pieces.{entryGround, isPlain};
+ghost use Rattle.store_abi.specs.Inner.Appending.{Appending};
 ghost use Rattle.store_abi.specs.Areas.{left, replied};
 ghost use Rattle.store_abi.specs.Areas.{formatCalled, appendCalled, closeCalled, dropCalled};
 ghost use Rattle.store_abi.specs.Areas.{forwardCalled, backwardCalled};
@@ -42,29 +39,98 @@ pub extern "C" fn store_format(state: &mut [u8], nand: &mut [u8], nor: &mut [u8]
     kept::keep_state(state, a)
 }
 
-// A plain lift goes straight into NOR and the area of the state; no page and no section goes out.
+// A plain lift goes straight into NOR and the area of the state; a page or a section that it fills goes out from there.
 fn put_plain(
     state: &mut [u8],
+    nand: &mut [u8],
     nor: &mut [u8],
-    count: u16,
-    buckets: u8,
+    slots: u64,
+    f: Fields,
     time: u64,
     load: i32,
     note: [u8; NOTE_BYTES],
     p: Plan,
 )
-    requires { ⌜ (length (now state) ≡ areaLength New) × (numberAt (now state) 8 2 ≤ liftsMost) × (4608 ≤ length (now nor)) × (buckets ≤ bucketsMost)
-        × Fitting buckets p ⌝ }
-    requires { ⌜ loadOk load ≡ true ⌝ }
-    ensures nor { λ _. ⌜ now (nor .exit) ≡ allWritten (now (nor .entry)) (writesOf (meaning p) buckets (stored load) count) ⌝ }
-    ensures state { λ _. ⌜ now (state .exit) ≡ stateBytes (withLift (stateIn (now (state .entry))) time (stored load) load note
-        (bucketsAfter (meaning p) buckets)) ⌝ }
+    requires { ⌜ Appending (now state) (now nand) (now nor) slots time load p × (f ≡ fieldsOf (stateIn (now state))) ⌝ }
+    requires { ⌜ isPlain (stateIn (now state)) slots (meaning p) ≡ true ⌝ }
+    ensures { λ _. ⌜ left 0 (now (state .exit)) (now (nand .exit)) (now (nor .exit))
+        ≡ appendCalled (now (state .entry)) (now (nand .entry)) (now (nor .entry)) slots time load note ⌝ }
 {
     let code = lift::stored(load);
-    let w = grow::writes_of(p, buckets, code, count);
+    let slot = flash::slot_of(f.current, slots);
+    let w = grow::writes_of(p, f.buckets, code, f.count);
     grow::carry(nor, w);
-    let after = grow::buckets_after(p, buckets);
-    in_place::put_lift(state, time, code, load, note, after);
+    let after = grow::buckets_after(p, f.buckets);
+    in_place::put_lift(state, nand, nor, slot, time, code, load, note, after);
+}
+
+// Every other lift: the state goes through the store's append by value, and back into its area.
+fn put_by_value(
+    state: &mut [u8],
+    nand: &mut [u8],
+    nor: &mut [u8],
+    slots: u64,
+    time: u64,
+    load: i32,
+    note: [u8; NOTE_BYTES],
+    p: Plan,
+)
+    requires { ⌜ Appending (now state) (now nand) (now nor) slots time load p ⌝ }
+    ensures { λ _. ⌜ left 0 (now (state .exit)) (now (nand .exit)) (now (nor .exit))
+        ≡ appendCalled (now (state .entry)) (now (nand .entry)) (now (nor .entry)) slots time load note ⌝ }
+{
+    let s = state_bytes::get_state(state);
+    let t = pieces::carried_out(s, nand, nor, slots, time, load, note, p);
+    state_bytes::put_state(state, t);
+}
+
+// A lift that no ground refuses.
+fn put(
+    state: &mut [u8],
+    nand: &mut [u8],
+    nor: &mut [u8],
+    slots: u64,
+    f: Fields,
+    time: u64,
+    load: i32,
+    note: [u8; NOTE_BYTES],
+    p: Plan,
+)
+    requires { ⌜ Appending (now state) (now nand) (now nor) slots time load p × (f ≡ fieldsOf (stateIn (now state))) ⌝ }
+    ensures { λ _. ⌜ left 0 (now (state .exit)) (now (nand .exit)) (now (nor .exit))
+        ≡ appendCalled (now (state .entry)) (now (nand .entry)) (now (nor .entry)) slots time load note ⌝ }
+{
+    if f.is_plain(slots, p) {
+        put_plain(state, nand, nor, slots, f, time, load, note, p);
+        return;
+    }
+    put_by_value(state, nand, nor, slots, time, load, note, p);
+}
+
+// An append past grounds 1 to 8.
+fn append_on(
+    state: &mut [u8],
+    nand: &mut [u8],
+    nor: &mut [u8],
+    slots: u64,
+    time: u64,
+    load: i32,
+    note: [u8; NOTE_BYTES],
+) -> u8
+    requires { ⌜ (length (now state) ≡ areaLength New)
+        × (entryGround (stateIn (now state)) (length (now nand)) (length (now nor)) slots time load ≡ 0) ⌝ }
+    ensures { λ r. ⌜ left r (now (state .exit)) (now (nand .exit)) (now (nor .exit))
+        ≡ appendCalled (now (state .entry)) (now (nand .entry)) (now (nor .entry)) slots time load note ⌝ }
+{
+    let f = area_reads::fields_at(state);
+    let a = f.planned(nand, nor, slots, load);
+    let m = a.number;
+    if m != 0 {
+        return m;
+    }
+    let p = a.plan;
+    put(state, nand, nor, slots, f, time, load, note, p);
+    0
 }
 
 #[no_mangle]
@@ -83,21 +149,12 @@ pub extern "C" fn store_append(
     if state.len() != state_bytes::STATE_BYTES {
         return AREA_LENGTH;
     }
+    let g = area_reads::lift_ground(state, nand.len(), nor.len(), slots, time, load);
+    if g != 0 {
+        return g;
+    }
     let n = *note;
-    let s = state_bytes::get_state(state);
-    let a = pieces::plan_append(s, nand, nor, slots, time, load);
-    let m = a.number;
-    if m != 0 {
-        return m;
-    }
-    let p = a.plan;
-    if pieces::is_plain(s, slots, p) {
-        put_plain(state, nor, s.count, s.buckets, time, load, n, p);
-        return 0;
-    }
-    let t = pieces::carried_out(s, nand, nor, slots, time, load, n, p);
-    state_bytes::put_state(state, t);
-    0
+    append_on(state, nand, nor, slots, time, load, n)
 }
 
 #[no_mangle]
@@ -149,8 +206,10 @@ pub extern "C" fn store_search(
     if answer.len() != NUMBER_BYTES {
         return AREA_LENGTH;
     }
-    let s = state_bytes::get_state(state);
-    let f = questions::search(s, nand, nor, slots, t1, t2, k1, k2, rows);
+    let n = area_reads::ground(state, nand.len(), nor.len(), slots);
+    let page = area_reads::page_of(state);
+    let g = area_reads::log_at(state, slots);
+    let f = questions::pieces::search_from(n, page, g, nand, nor, t1, t2, k1, k2, rows);
     kept::keep_number(answer, f.number, f.count);
     f.number
 }
@@ -174,8 +233,10 @@ pub extern "C" fn store_tally(
     if answer.len() != COUNTS_BYTES {
         return AREA_LENGTH;
     }
-    let s = state_bytes::get_state(state);
-    let t = questions::tally(s, nand, nor, slots, t1, t2);
+    let n = area_reads::ground(state, nand.len(), nor.len(), slots);
+    let page = area_reads::page_of(state);
+    let g = area_reads::log_at(state, slots);
+    let t = questions::pieces::tally_from(n, page, g, nand, nor, t1, t2);
     let counts = t.counts;
     kept::keep_counts(answer, t.number, counts);
     t.number

@@ -1,22 +1,26 @@
-// A search of one tree (document 01, "Search"): its buckets in rising order of their numbers, with a mask of those reached.
+// A search of one tree (document 01, "Search"): its buckets in rising order of their numbers, with a mask of those due.
 use bitset::Bits;
 use tree::Bucket;
 ghost use mathlib.Core.Path.{_≡_};
 ghost use mathlib.Core.Bool.{true};
 ghost use mathlib.Core.Option.{some};
 ghost use mathlib.Core.List.{[]};
-ghost use Prim.Native.Nat.{ℕ, suc, _+_, _-_, _≤_, _<_};
+ghost use Prim.Native.Nat.{ℕ, _+_, _≤_, _<_};
+ghost use lib.Count.{trailingZeros};
 ghost use lib.ListN.{length};
+ghost use Rattle.lift.specs.Record.{recordWidth, timeAt, codeAt};
 ghost use Rattle.tree.specs.Rules.{entriesMost};
 ghost use Rattle.tree.specs.Bytes.{noMid};
 ghost use Rattle.tree.specs.Reading.{entryIn, entriesFrom, childAt, kidsOf, positionsGood};
 ghost use Rattle.tree.specs.Search.{within, reachedWith, reached};
 ghost use Rattle.tree.specs.Inner.Seen.{headOf};
 ghost use Rattle.sweep.specs.Inner.Swept.{sweptOf, Recorded, Held};
-ghost use Rattle.sweep.specs.Inner.Turns.{isDue, HasBit, codesOf, withEntry, withEntries, leadsTo, onward};
+ghost use Rattle.sweep.specs.Inner.Turns.{isDue, HasBit, DueBelow, DueAbove, codesOf, timesOf, withRecord, withEntry, withEntries, leadsTo, onward};
 
-// Stored loads from k1 to k2.
+// Times from t1 to t2, stored loads from k1 to k2.
 pub struct Range {
+    pub t1: u64,
+    pub t2: u64,
     pub k1: u32,
     pub k2: u32,
 }
@@ -34,18 +38,11 @@ pub struct Sweep {
     pub set: Bits,
 }
 
-// A sweep on its way: the mask of the buckets that are reached, and the positions found so far.
+// A sweep on its way: the mask of the buckets that are reached and not yet visited, and the positions found so far.
 struct Turn {
     good: bool,
     due: u64,
     set: Bits,
-}
-
-fn is_due(due: u64, b: u8) -> bool
-    requires { ⌜ b < 64 ⌝ }
-    ensures { λ r. ⌜ r ≡ isDue due b ⌝ }
-{
-    (due >> b) % 2 == 1
 }
 
 // The mask with a child, where it is taken and there is one.
@@ -80,6 +77,23 @@ fn in_range(code: u32, r: Range) -> bool
     (r.k1 <= code) & (code <= r.k2)
 }
 
+// An entry with the record from `at` on: its load must be the record's, and its position is taken if the record's time is in the range.
+fn compared(area: &[u8], at: usize, p: usize, code: u32, r: Range, s: Sweep) -> Sweep
+    requires { ⌜ (at + recordWidth ≤ length (now area)) × (p < 320) ⌝ }
+    ensures { λ q. ⌜ q ≡ withRecord (codeAt (now (area .entry)) at) (timeAt (now (area .entry)) at) r p code s ⌝ }
+{
+    let recorded = lift::record_code(area, at);
+    let t = lift::record_time(area, at);
+    let good = s.good & (code == recorded);
+    let set = s.set;
+    let inside = (r.t1 <= t) & (t <= r.t2);
+    if !inside {
+        return Sweep { good, set };
+    }
+    let more = set.insert(p);
+    Sweep { good, set: more }
+}
+
 // Entry i of a bucket's bytes.
 fn entry_at(
     bucket: &[u8],
@@ -92,20 +106,18 @@ fn entry_at(
 ) -> Sweep
     requires { ⌜ (i < entriesMost) × (128 ≤ length (now bucket)) × (entryIn (now bucket) i .position < g .count) ⌝ }
     requires { ⌜ Recorded (now lifts) (now tail) g ⌝ }
-    ensures { λ q. ⌜ q ≡ withEntry (codesOf (now (lifts .entry)) (now (tail .entry)) g) r (entryIn (now (bucket .entry)) i) s ⌝ }
+    ensures { λ q. ⌜ q ≡ withEntry (codesOf (now (lifts .entry)) (now (tail .entry)) g)
+        (timesOf (now (lifts .entry)) (now (tail .entry)) g) r (entryIn (now (bucket .entry)) i) s ⌝ }
 {
     let code = tree::entry_code(bucket, i);
     if !in_range(code, r) {
         return s;
     }
     let p = tree::entry_position(bucket, i) as usize;
-    let recorded = lift::code_in(lifts, tail, g.first, p);
-    let set = s.set;
-    let more = set.insert(p);
-    Sweep {
-        good: s.good & (code == recorded),
-        set: more,
+    if p < g.first {
+        return compared(lifts, p * lift::RECORD_BYTES, p, code, r, s);
     }
+    compared(tail, (p - g.first) * lift::RECORD_BYTES, p, code, r, s)
 }
 
 // The entries of a bucket, `used` in number. A split bucket has entries too.
@@ -121,8 +133,8 @@ fn entries(
     requires { ⌜ (128 ≤ length (now bucket)) × (used ≡ length (entriesFrom (now bucket) 13 0)) ⌝ }
     requires { ⌜ positionsGood (g .count) (entriesFrom (now bucket) 13 0) ≡ true ⌝ }
     requires { ⌜ Recorded (now lifts) (now tail) g ⌝ }
-    ensures { λ q. ⌜ q ≡ withEntries (codesOf (now (lifts .entry)) (now (tail .entry)) g) r (entriesFrom (now (bucket .entry)) 13 0)
-        (record { good = true; set = set }) ⌝ }
+    ensures { λ q. ⌜ q ≡ withEntries (codesOf (now (lifts .entry)) (now (tail .entry)) g)
+        (timesOf (now (lifts .entry)) (now (tail .entry)) g) r (entriesFrom (now (bucket .entry)) 13 0) (record { good = true; set = set }) ⌝ }
 {
     let mut s = Sweep { good: true, set };
     let mut i: usize = 0;
@@ -133,30 +145,29 @@ fn entries(
     s
 }
 
-// Bucket b, if it is reached and no damage has been met. What it leads to is what was to be found from it on.
-fn visit(tree: &[u8], lifts: &[u8], tail: &[u8], g: Records, r: Range, b: u8, t: Turn) -> Turn
+// The lowest bucket that is due, and no longer is then. The others and those that they lead to are left; what is found in all is the same.
+fn visit(tree: &[u8], lifts: &[u8], tail: &[u8], g: Records, r: Range, t: Turn) -> Turn
     requires { ⌜ Held (now tree) (now lifts) (now tail) g ⌝ }
-    requires { ⌜ b < g .buckets ⌝ }
-    ensures { λ q. ⌜ ((n : ℕ) → onward (now (tree .entry)) (codesOf (now (lifts .entry)) (now (tail .entry)) g) g r n (suc b) q
-        ≡ onward (now (tree .entry)) (codesOf (now (lifts .entry)) (now (tail .entry)) g) g r (suc n) b t) ⌝ }
+    requires { ⌜ (t .good ≡ true) × (0 < t .due) × DueBelow (g .buckets) (t .due) ⌝ }
+    ensures leads { λ q. ⌜ onward (now (tree .entry)) (now (lifts .entry)) (now (tail .entry)) g r (g .buckets) 0 q
+        ≡ onward (now (tree .entry)) (now (lifts .entry)) (now (tail .entry)) g r (g .buckets) 0 t ⌝ }
+    ensures left { λ q. ⌜ DueBelow (g .buckets) (q .due) × DueAbove (trailingZeros 64 (t .due)) (q .due) ⌝ }
 {
     let due = t.due;
-    let go = t.good & is_due(due, b);
-    if !go {
-        return t;
-    }
     let set = t.set;
+    let b = bitset::lowest(due) as u8;
+    let rest = bitset::without_lowest(due);
     let bucket = tree::bucket_of(tree, Bucket(b));
     let n = tree::node_in(bucket, Bucket(b), g.buckets, g.count);
     let good = n.good;
     if !good {
         return Turn {
             good: false,
-            due,
+            due: rest,
             set,
         };
     }
-    let more = with_kids(due, n.mid, n.left, n.right, r);
+    let more = with_kids(rest, n.mid, n.left, n.right, r);
     let found = entries(bucket, lifts, tail, g, n.used, r, set);
     let all = found.set;
     Turn {
@@ -182,22 +193,28 @@ fn ended(t: Turn) -> Sweep
     }
 }
 
-// The positions of the segment's lifts whose loads are in the range, by its tree; each is compared with its record.
+// The positions of the segment's lifts whose loads and times are in the range, by its tree; each load is compared with its record's.
 pub fn sweep_tree(tree: &[u8], lifts: &[u8], tail: &[u8], g: Records, r: Range) -> Sweep
     requires { ⌜ Held (now tree) (now lifts) (now tail) g ⌝ }
     ensures { λ q. ⌜ q ≡ sweptOf (now (tree .entry)) (now (lifts .entry)) (now (tail .entry)) g r ⌝ }
 {
     let none = Bits::empty();
+    if g.buckets == 0 {
+        return Sweep {
+            good: true,
+            set: none,
+        };
+    }
     let mut t = Turn {
         good: true,
         due: 1,
         set: none,
     };
-    let buckets = g.buckets;
-    let mut b: u8 = 0;
-    while b < buckets {
-        t = visit(tree, lifts, tail, g, r, b, t);
-        b += 1;
+    loop {
+        let go = t.good & (0 < t.due);
+        if !go {
+            return ended(t);
+        }
+        t = visit(tree, lifts, tail, g, r, t);
     }
-    ended(t)
 }

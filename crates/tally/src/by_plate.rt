@@ -121,7 +121,12 @@ fn tally_on(nand: &[u8], slots: u64, oldest: u32, q: Query, r: Tallying) -> Tall
 {
     let c = r.c;
     let n = r.n;
-    let step = walk::advance(nand, slots, oldest, q, c);
+    if walk::at_end(c, oldest) {
+        return Tallying { done: true, c, n };
+    }
+    let p = c.next;
+    let seen = walk::look(nand, slots, q, p.slot, c.before);
+    let step = walk::step_of(p.slot, seen);
     match step {
         Step::End => Tallying { done: true, c, n },
         Step::Damage => {

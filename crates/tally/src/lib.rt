@@ -1,7 +1,6 @@
 // What a tally counts (document 01, "Plates"): the lifts by plate that a search over all loads finds.
 mod by_plate;
 
-use flash::PAGE_BYTES;
 use found::DAMAGE;
 use plate::PLATES;
 use visit::Log;
@@ -9,6 +8,8 @@ use visit::Query;
 use walk::Cursor;
 ghost use mathlib.Core.Path.{_≡_};
 ghost use Prim.Native.Nat.{_≤_};
+ghost use lib.ListN.{length};
+ghost use Rattle.flash.specs.Chip.{pageWidth};
 ghost use Rattle.plate.specs.Plate.{noCounts};
 ghost use Rattle.skiplist.specs.Skip.{serialsFrom};
 ghost use Rattle.visit.specs.Inner.Sound.{LogSound};
@@ -45,14 +46,15 @@ pub fn no_tally(number: u8) -> Tally
 }
 
 // Ground 10, then the counts by plate of what a search finds.
-pub fn tally_in(nand: &[u8], nor: &[u8], page: [u8; PAGE_BYTES], g: Log, q: Query) -> Tally
+pub fn tally_in(nand: &[u8], nor: &[u8], page: &[u8], g: Log, q: Query) -> Tally
     requires { ⌜ LogSound (now nand) (now nor) g ⌝ }
+    requires { ⌜ length (now page) ≡ pageWidth ⌝ }
     requires { ⌜ 1 ≤ q .k1 ⌝ }
     ensures { λ r. ⌜ _≡_ {A = TallyAnswer} (record { number = r .number; counts = r .counts })
-        (tallyAnswer (foundRows (now (nand .entry)) (now (nor .entry)) page g (serialsFrom (g .oldest)) q)) ⌝ }
+        (tallyAnswer (foundRows (now (nand .entry)) (now (nor .entry)) (now (page .entry)) g (serialsFrom (g .oldest)) q)) ⌝ }
 {
     let c = walk::start_of(nand, g, q);
-    let n = by_plate::tally_open(nand, nor, &page, g, q);
+    let n = by_plate::tally_open(nand, nor, page, g, q);
     let good = c.good & n.good;
     if !good {
         return no_tally(DAMAGE);

@@ -8,7 +8,7 @@ use native.Mathlib.Numerals.{add-one}
 use native.Mathlib.Omega.{arith}
 use lib.Dec.{ltb, leb, eqb}
 use lib.ListN.{length}
-use borrow.Author.Tests.{eq-eqb, ne-eqb, ltb-true, leb-true}
+use borrow.Author.Tests.{eq-eqb, ne-eqb, lt-ltb, ltb-true, leb-true}
 use Rattle.codec.proofs.Truth.{and-assoc, and-parts, and-true}
 use Rattle.codec.specs.Number.{numberAt}
 use Rattle.tree.specs.Bytes.{noMid}
@@ -53,27 +53,27 @@ entries-some s n i h =
     entries-more s n i (omega (arith, entries-few s n i)) (λ e.
     let z : length (entriesFrom s n i) ≡ 0 = ap length (entries-end s n i e) in omega arith)
 
--- i entries have been passed, `good` if all their positions are below the count; those from i on are left
-pub record Passed (s : List ℕ) (count : ℕ) (good : Bool) (i : ℕ) : Type 0 where
+-- from the place `from` on, the entries up to i have been passed, `good` if all their positions are below the count
+pub record Passed (s : List ℕ) (count from : ℕ) (good : Bool) (i : ℕ) : Type 0 where
   pub low : i ≤ 13
-  pub used : i + length (entriesFrom s (13 - i) i) ≡ length (entriesFrom s 13 0)
-  pub all : (good && positionsGood count (entriesFrom s (13 - i) i)) ≡ positionsGood count (entriesFrom s 13 0)
+  pub used : i + length (entriesFrom s (13 - i) i) ≡ from + length (entriesFrom s (13 - from) from)
+  pub all : (good && positionsGood count (entriesFrom s (13 - i) i)) ≡ positionsGood count (entriesFrom s (13 - from) from)
 
-module _ (s : List ℕ) (count : ℕ) where
-  pub passed-none : Passed s count true 0
-  passed-none = record { low = omega arith; used = omega arith; all = refl }
+module _ (s : List ℕ) (count from : ℕ) where
+  pub passed-none : from ≤ 13 → Passed s count from true from
+  passed-none l = record { low = l; used = refl; all = refl }
 
   -- there is none left
-  pub passed-end : (good : Bool) (i : ℕ) → Passed s count good i → entriesFrom s (13 - i) i ≡ []
-      → (good ≡ positionsGood count (entriesFrom s 13 0)) × (i ≡ length (entriesFrom s 13 0))
+  pub passed-end : (good : Bool) (i : ℕ) → Passed s count from good i → entriesFrom s (13 - i) i ≡ []
+      → (good ≡ positionsGood count (entriesFrom s (13 - from) from)) × (i ≡ from + length (entriesFrom s (13 - from) from))
   unfolding positionsGood
   passed-end good i h e = (
     sym (and-true good) ∙ rw e at (h .all),
     omega (arith, rw e at (h .used)),
   )
 
-  pub passed-more : (good : Bool) (i : ℕ) → Passed s count good i → i < 13 → (numberAt s (28 + 8 * i) 2 ≡ 65535 → ⊥)
-      → Passed s count (good && ltb (numberAt s (28 + 8 * i) 2) count) (i + 1)
+  pub passed-more : (good : Bool) (i : ℕ) → Passed s count from good i → i < 13 → (numberAt s (28 + 8 * i) 2 ≡ 65535 → ⊥)
+      → Passed s count from (good && ltb (numberAt s (28 + 8 * i) 2) count) (i + 1)
   unfolding positionsGood
   passed-more good i h l e =
       let m = entries-more s (13 - i) i (omega arith) e in
@@ -86,6 +86,14 @@ module _ (s : List ℕ) (count : ℕ) where
             (and-assoc good (ltb (numberAt s (28 + 8 * i) 2) count) (positionsGood count (entriesFrom s (13 - i - 1) (i + 1)))
             ∙ rw m at (h .all));
       }
+
+  -- a position below the count is no end
+  pub passed-good : (i : ℕ) → count ≤ 65535 → Passed s count from true i → i < 13 → numberAt s (28 + 8 * i) 2 < count
+      → Passed s count from true (i + 1)
+  passed-good i c h l p =
+      let q = passed-more true i h l (λ e. omega arith) in
+      let t : ltb (numberAt s (28 + 8 * i) 2) count ≡ true = lt-ltb (numberAt s (28 + 8 * i) 2) count p in
+      rw t at q
 
 -- ---- mid and children
 

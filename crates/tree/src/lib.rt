@@ -2,7 +2,7 @@
 // bytes, in NOR from 0 and in pages 20 to 28 of a slot. The rules and their laws are in specs/ and proofs/.
 use flash::Page;
 ghost use mathlib.Core.Path.{_≡_};
-ghost use Prim.Native.Nat.{_+_, _*_, _≤_, _<_};
+ghost use Prim.Native.Nat.{_-_, _+_, _*_, _≤_, _<_};
 ghost use lib.ListN.{length};
 ghost use Rattle.tree.specs.Rules.{entriesMost};
 ghost use Rattle.tree.specs.Reading.{bucketAt, entryIn, entriesFrom, childAt, kidsOf, childGood, kidsGood, positionsGood};
@@ -125,14 +125,14 @@ pub fn entry_position(s: &[u8], i: usize) -> u16
     codec::get_u16(s, ENTRIES_AT + 4 + ENTRY_BYTES * i)
 }
 
-// The entries before the first with position 65,535.
-fn entries_in(s: &[u8], count: u16) -> Entries
-    requires { ⌜ 128 ≤ length (now s) ⌝ }
-    ensures good { λ r. ⌜ r .good ≡ positionsGood count (entriesFrom (now (s .entry)) 13 0) ⌝ }
-    ensures used { λ r. ⌜ r .used ≡ length (entriesFrom (now (s .entry)) 13 0) ⌝ }
+// Those of the places from `from` on, each told apart from the end.
+fn entries_on(s: &[u8], count: u16, from: usize) -> Entries
+    requires { ⌜ (128 ≤ length (now s)) × (from ≤ 13) ⌝ }
+    ensures good { λ r. ⌜ r .good ≡ positionsGood count (entriesFrom (now (s .entry)) (13 - from) from) ⌝ }
+    ensures used { λ r. ⌜ r .used ≡ from + length (entriesFrom (now (s .entry)) (13 - from) from) ⌝ }
 {
     let mut good = true;
-    let mut i: usize = 0;
+    let mut i = from;
     while i < ENTRIES_PER_BUCKET {
         let p = entry_position(s, i);
         if p == NO_POSITION {
@@ -142,6 +142,26 @@ fn entries_in(s: &[u8], count: u16) -> Entries
         i += 1;
     }
     Entries { good, used: i }
+}
+
+// The entries before the first with position 65,535. One test for each: that number is not below the count either.
+fn entries_in(s: &[u8], count: u16) -> Entries
+    requires { ⌜ 128 ≤ length (now s) ⌝ }
+    ensures good { λ r. ⌜ r .good ≡ positionsGood count (entriesFrom (now (s .entry)) 13 0) ⌝ }
+    ensures used { λ r. ⌜ r .used ≡ length (entriesFrom (now (s .entry)) 13 0) ⌝ }
+{
+    let mut i: usize = 0;
+    while i < ENTRIES_PER_BUCKET {
+        let p = entry_position(s, i);
+        if count <= p {
+            return entries_on(s, count, i);
+        }
+        i += 1;
+    }
+    Entries {
+        good: true,
+        used: i,
+    }
 }
 
 // A child's number is above its parent's and below the bucket count, or 255 for none.

@@ -1,39 +1,29 @@
 -- The matches of one segment: positions below its count, kept by their times, and read back from their set as they are. Assumes
 -- nothing.
 use mathlib.Core.Path.{_≡_, refl, sym, ap, _∙_}
-use mathlib.Core.Bool.{Bool, true, false, cond, not, _&&_, _||_}
+use mathlib.Core.Bool.{Bool, true, false, cond, _&&_, _||_}
 use mathlib.Core.Option.{Option, none, some}
-use mathlib.Core.List.{List, [], _∷_, _++_}
+use mathlib.Core.List.{List, [], _∷_}
 use Prim.Native.Nat.{ℕ, zero, suc, _+_, _≤_, _<_}
 use native.Mathlib.Omega.{arith}
-use lib.Dec.{eqb, leb, ltb}
-use borrow.Author.Tests.{ltb-true, eqb-true, eqb-false, ne-eqb, not-true, not-false}
+use lib.Dec.{eqb}
+use borrow.Author.Tests.{eqb-true, eqb-false, ne-eqb}
 use Rattle.codec.proofs.Truth.{and-parts}
-use Rattle.bitset.specs.declared.Bits.{Bits}
 use Rattle.bitset.specs.Set.{picked, elem}
-use Rattle.bitset.specs.Inner.Words.{emptyWords, insertAll, members, has, Below}
+use Rattle.bitset.specs.Inner.Words.{emptyWords, insertAll, members, Below}
 use Rattle.bitset.proofs.Picked.{picked-same}
-use Rattle.bitset.proofs.Set.{has-inserted-all, members-empty, members-inserted-all}
+use Rattle.bitset.proofs.Same.{same-words}
+use Rattle.bitset.proofs.Set.{members-inserted-all}
 use Rattle.lift.specs.Rows.{timeIn, codeIn}
-use Rattle.tree.specs.Rules.{Entry}
-use Rattle.tree.specs.Reading.{kidsOf, kidsGood, positionsGood, nodeGood, Node}
-use Rattle.tree.specs.Search.{within, hits, reached}
-use Rattle.tree.specs.Sweep.{andThen, nodeAt, visitGood, sweepFrom, sweepOn, recordsGood}
+use Rattle.tree.specs.Sweep.{sweepOn}
+use Rattle.sweep.specs.declared.Range.{Range}
 use Rattle.sweep.specs.declared.Records.{Records}
-use Rattle.sweep.specs.declared.Sweep.{Sweep}
-use Rattle.sweep.specs.Inner.Swept.{sweptFrom, sweptOf}
+use Rattle.sweep.specs.Inner.Swept.{sweptFrom, passing, passingOf, sweptOf}
+use Rattle.sweep.proofs.Found.{below-more, below-passing, elem-passing, sweep-below}
 use Rattle.visit.specs.declared.Query.{Query}
 use Rattle.visit.specs.Visit.{timely, timed, timedOf, matchesOf}
 
 -- ---- places below a count
-
-below-append : (n : ℕ) (a b : List ℕ) → Below n a → Below n b → Below n (a ++ b)
-below-append n [] b p q = q
-below-append n (x ∷ a) b p q = (p .0, below-append n a b (p .1) q)
-
-pub below-more : (n m : ℕ) (l : List ℕ) → n ≤ m → Below n l → Below m l
-below-more n m [] h b = tt
-below-more n m (x ∷ l) h b = (omega (arith, b .0), below-more n m l h (b .1))
 
 below-elem : (n p : ℕ) (l : List ℕ) → Below n l → elem p l ≡ true → p < n
 unfolding elem
@@ -53,116 +43,6 @@ below-picked n f from (suc m) h = go (f from) refl (below-picked n f (suc from) 
         → Below n (cond t (from ∷ picked f (suc from) m) (picked f (suc from) m))
     go true e b = (h from e, b)
     go false e b = b
-
--- ---- positions that a sweep finds
-
-hits-below : (count k1 k2 : ℕ) (es : List Entry) → positionsGood count es ≡ true → Below count (hits k1 k2 es)
-unfolding positionsGood hits
-hits-below count k1 k2 [] e = tt
-hits-below count k1 k2 (x ∷ es) e =
-    go (within k1 k2 (x .load)) (hits-below count k1 k2 es (and-parts (ltb (x .position) count) _ e .1))
-  where
-    go : (t : Bool) → Below count (hits k1 k2 es) → Below count (cond t (x .position ∷ hits k1 k2 es) (hits k1 k2 es))
-    go true b = (ltb-true _ _ (and-parts (ltb (x .position) count) _ e .0), b)
-    go false b = b
-
--- what is found is below n; damage finds nothing
-abbrev pub AllBelow : ℕ → Option (List ℕ) → Type 0
-AllBelow n none = Unit {0}
-AllBelow n (some ps) = Below n ps
-
-module _ (area : List ℕ) (buckets count : ℕ) (recorded : ℕ → ℕ) (k1 k2 : ℕ) where
-  then-below : (ps : List ℕ) (o : Option (List ℕ)) → Below count ps → AllBelow count o → AllBelow count (andThen ps o)
-  then-below ps none b c = tt
-  then-below ps (some qs) b c = below-append count ps qs b c
-
-  visit-below : (b : ℕ) → visitGood area buckets count recorded k1 k2 b ≡ true
-      → Below count (hits k1 k2 (nodeAt area buckets count recorded k1 k2 b .entries))
-  unfolding nodeGood
-  visit-below b e =
-      let n : Node = nodeAt area buckets count recorded k1 k2 b in
-      let g : nodeGood n b buckets count ≡ true = and-parts (nodeGood n b buckets count) (recordsGood recorded k1 k2 (n .entries))
-      e .0 in
-      hits-below count k1 k2 (n .entries)
-      (and-parts (ltb (n .x) (n .y) && leb (n .y) 150001 && kidsGood b buckets (n .x) (n .y) (kidsOf n))
-      (positionsGood count (n .entries)) g .1)
-
-  from-below : (n b : ℕ) (r : ℕ → Bool) → AllBelow count (sweepFrom area buckets count recorded k1 k2 n b r)
-  unfolding sweepFrom
-  from-below zero b r = tt
-  from-below (suc n) b r = go (r b) (visitGood area buckets count recorded k1 k2 b) refl (λ s. from-below n (suc b) s)
-    where
-      go : (t v : Bool) → visitGood area buckets count recorded k1 k2 b ≡ v
-          → ((s : ℕ → Bool) → AllBelow count (sweepFrom area buckets count recorded k1 k2 n (suc b) s))
-          → AllBelow count (cond (cond t (visitGood area buckets count recorded k1 k2 b) true)
-          (andThen (cond t (hits k1 k2 (nodeAt area buckets count recorded k1 k2 b .entries)) [])
-          (sweepFrom area buckets count recorded k1 k2 n (suc b)
-          (cond t (reached k1 k2 (kidsOf (nodeAt area buckets count recorded k1 k2 b)) r) r)))
-          none)
-      go false v e ih = then-below [] (sweepFrom area buckets count recorded k1 k2 n (suc b) r) tt (ih r)
-      go true true e ih =
-          let s : ℕ → Bool = reached k1 k2 (kidsOf (nodeAt area buckets count recorded k1 k2 b)) r in
-          rw e (then-below (hits k1 k2 (nodeAt area buckets count recorded k1 k2 b .entries))
-          (sweepFrom area buckets count recorded k1 k2 n (suc b) s) (visit-below b e) (ih s))
-      go true false e ih = rw e tt
-
-  pub sweep-below : AllBelow count (sweepOn area buckets count recorded k1 k2)
-  unfolding sweepOn
-  sweep-below = from-below buckets 0 (λ j. eqb j 0)
-
--- ---- the matches from a sweep's set
-
-absurd-bool : {P : Type 0} → true ≡ false → P
-absurd-bool e = let z : _≡_ {A = ℕ} 0 1 = cc in absurd (omega arith)
-
-module _ (count : ℕ) (time : ℕ → ℕ) (q : Query) (s : Sweep) (most : count ≤ 320) where
-  bad : (o : Option (List ℕ)) → s ≡ sweptFrom emptyWords o → s .good ≡ false → s ≡ sweptFrom emptyWords (timedOf time q o)
-  bad none e b = e
-  bad (some ps) e b = absurd-bool (sym (ap (λ (x : Sweep). x .good) e) ∙ b)
-
-  set-below : (o : Option (List ℕ)) → AllBelow count o → s ≡ sweptFrom emptyWords o → Below count (members (s .set .words))
-  set-below none a e = rw (e, members-empty) tt
-  set-below (some ps) a e =
-      rw (e, members-inserted-all ps (below-more count 320 ps most a))
-      (below-picked count (λ p. elem p ps) 0 320 (λ p h. below-elem count p ps a h))
-
-  good : (o : Option (List ℕ)) → AllBelow count o → s ≡ sweptFrom emptyWords o → s .good ≡ true → (kept : Bits)
-      → kept .words ≡ insertAll emptyWords (picked (λ p. has (s .set .words) p && timely q (time p)) 0 320)
-      → _≡_ {A = Sweep} (record { good = true; set = kept }) (sweptFrom emptyWords (timedOf time q o))
-  unfolding timed
-  good none a e g kept k = absurd-bool (sym g ∙ ap (λ (x : Sweep). x .good) e)
-  good (some ps) a e g kept k =
-      ap (λ (ws : List ℕ). record { good = true; set = record { words = ws } })
-      (k ∙ ap (insertAll emptyWords) (picked-same (λ p. has (s .set .words) p && timely q (time p))
-      (λ p. elem p ps && timely q (time p)) 0 320 (λ p u v.
-      ap (λ (b : Bool). b && timely q (time p)) (ap (λ (x : Sweep). has (x .set .words) p) e ∙ has-inserted-all ps p
-      (below-more count 320 ps most a)))))
-
-module _ (tree lifts tail : List ℕ) (g : Records) (q : Query) (most : g .count ≤ 320) (s : Sweep)
-    (is : s ≡ sweptOf tree lifts tail g (record { k1 = q .k1; k2 = q .k2 })) where
-  abbrev found : Option (List ℕ)
-  found = sweepOn tree (g .buckets) (g .count) (codeIn lifts tail (g .first)) (q .k1) (q .k2)
-
-  found-below : AllBelow (g .count) found
-  found-below = sweep-below tree (g .buckets) (g .count) (codeIn lifts tail (g .first)) (q .k1) (q .k2)
-
-  pub matched-none : not (s .good) ≡ true
-      → s ≡ sweptFrom emptyWords (matchesOf tree lifts tail (g .first) (g .count) (g .buckets) q)
-  unfolding sweptOf matchesOf
-  matched-none b = bad (g .count) (timeIn lifts tail (g .first)) q s most found is (not-true _ b)
-
-  pub matched-below : Below (g .count) (members (s .set .words))
-  unfolding sweptOf
-  matched-below = set-below (g .count) (timeIn lifts tail (g .first)) q s most found found-below is
-
-  pub matched-some : not (s .good) ≡ false → (kept : Bits)
-      → kept .words ≡ insertAll emptyWords (picked (λ p. has (s .set .words) p && timely q (timeIn lifts tail (g .first) p)) 0 320)
-      → _≡_ {A = Sweep} (record { good = true; set = kept })
-      (sweptFrom emptyWords (matchesOf tree lifts tail (g .first) (g .count) (g .buckets) q))
-  unfolding sweptOf matchesOf
-  matched-some b kept k = good (g .count) (timeIn lifts tail (g .first)) q s most found found-below is (not-false _ b) kept k
-
--- ---- matches are places of lifts, and their set has them lowest first
 
 elem-before : (f : ℕ → Bool) (from n p : ℕ) → p < from → elem p (picked f from n) ≡ false
 unfolding picked elem
@@ -198,6 +78,37 @@ range-below f from (suc n) =
     go true b = (omega arith, b)
     go false b = b
 
+-- ---- the matches from a sweep: those found and filtered make the same set as those filtered and then put in order
+
+module _ (tree lifts tail : List ℕ) (g : Records) (q : Query) (most : g .count ≤ 320) where
+  abbrev range : Range
+  range = record { t1 = q .t1; t2 = q .t2; k1 = q .k1; k2 = q .k2 }
+
+  abbrev fits : ℕ → Bool
+  fits p = timely q (timeIn lifts tail (g .first) p)
+
+  same-set : (ps : List ℕ) → Below 320 ps → insertAll emptyWords (passing fits ps) ≡ insertAll emptyWords (timed (timeIn lifts tail (g .first)) q ps)
+  unfolding timed
+  same-set ps b =
+      let f : ℕ → Bool = λ p. elem p ps && fits p in
+      same-words (passing fits ps) (picked f 0 320) (below-passing 320 fits ps b) (range-below f 0 320) (λ p l.
+      elem-passing fits p ps ∙ sym (elem-picked f 0 320 p (omega arith) l))
+
+  pub matched : sweptOf tree lifts tail g range
+      ≡ sweptFrom emptyWords (matchesOf tree lifts tail (g .first) (g .count) (g .buckets) q)
+  unfolding sweptOf matchesOf
+  matched = go (sweepOn tree (g .buckets) (g .count) (codeIn lifts tail (g .first)) (q .k1) (q .k2))
+      (sweep-below tree (g .buckets) (g .count) (codeIn lifts tail (g .first)) (q .k1) (q .k2))
+    where
+      go : (o : Option (List ℕ)) → ((ps : List ℕ) → o ≡ some ps → Below (g .count) ps)
+          → sweptFrom emptyWords (passingOf fits o) ≡ sweptFrom emptyWords (timedOf (timeIn lifts tail (g .first)) q o)
+      go none a = refl
+      go (some ps) a =
+          ap (λ (ws : List ℕ). record { good = true; set = record { words = ws } })
+          (same-set ps (below-more (g .count) 320 ps most (a ps refl)))
+
+-- ---- matches are places of lifts, and their set has them lowest first
+
 -- places below a count, which their set has in their order
 abbrev pub Places : ℕ → Option (List ℕ) → Type 0
 Places count none = Unit {0}
@@ -210,11 +121,11 @@ matches-places tree lifts tail first count buckets q =
     go (sweepOn tree buckets count (codeIn lifts tail first) (q .k1) (q .k2))
     (sweep-below tree buckets count (codeIn lifts tail first) (q .k1) (q .k2))
   where
-    go : (o : Option (List ℕ)) → AllBelow count o → Places count (timedOf (timeIn lifts tail first) q o)
+    go : (o : Option (List ℕ)) → ((ps : List ℕ) → o ≡ some ps → Below count ps) → Places count (timedOf (timeIn lifts tail first) q o)
     go none a = tt
     go (some ps) a =
         let f : ℕ → Bool = λ p. elem p ps && timely q (timeIn lifts tail first p) in (
-          below-picked count f 0 320 (λ p e. below-elem count p ps a (and-parts (elem p ps) _ e .0)),
+          below-picked count f 0 320 (λ p e. below-elem count p ps (a ps refl) (and-parts (elem p ps) _ e .0)),
           members-inserted-all (picked f 0 320) (range-below f 0 320)
               ∙ picked-same (λ p. elem p (picked f 0 320)) f 0 320 (λ p u v. elem-picked f 0 320 p u v),
         )

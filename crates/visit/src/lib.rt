@@ -1,5 +1,4 @@
 // What a search takes from each segment (document 01, "Search"): its tree searched, its times filtered.
-use bitset::Bits;
 use flash::Page;
 use skiplist::LEVELS;
 use skiplist::Pointer;
@@ -7,15 +6,12 @@ use sweep::Range;
 use sweep::Records;
 use sweep::Sweep;
 ghost use mathlib.Core.Path.{_≡_};
-ghost use mathlib.Core.Bool.{_&&_};
 ghost use Prim.Native.Nat.{_+_, _*_, _≤_};
 ghost use lib.ListN.{length};
 ghost use Rattle.flash.specs.Chip.{pageWidth, slotWidth};
-ghost use Rattle.bitset.specs.Set.{picked};
-ghost use Rattle.bitset.specs.Inner.Words.{emptyWords, insertAll, members, has, Below};
-ghost use Rattle.lift.specs.Rows.{timeIn};
-ghost use Rattle.sweep.specs.Inner.Swept.{sweptFrom, Recorded, Held};
-ghost use Rattle.visit.specs.Visit.{timely, matchesOf, closedMatches, openMatches, closedLifts, openLifts};
+ghost use Rattle.bitset.specs.Inner.Words.{emptyWords};
+ghost use Rattle.sweep.specs.Inner.Swept.{sweptFrom, Held};
+ghost use Rattle.visit.specs.Visit.{matchesOf, closedMatches, openMatches, closedLifts, openLifts};
 ghost use Rattle.visit.specs.Inner.Sound.{ClosedSound, LogSound, closedRecords, openRecords};
 
 // Times from t1 to t2, stored loads from k1 to k2.
@@ -48,49 +44,19 @@ pub struct Closed {
     pub buckets: u8,
 }
 
-// The places of the set whose times are from t1 to t2.
-fn timed(lifts: &[u8], tail: &[u8], g: Records, set: Bits, q: Query) -> Bits
-    requires { ⌜ Recorded (now lifts) (now tail) g ⌝ }
-    requires { ⌜ Below (g .count) (members (set .words)) ⌝ }
-    ensures { λ r. ⌜ r .words ≡ insertAll emptyWords
-        (picked (λ p. has (set .words) p && timely q (timeIn (now (lifts .entry)) (now (tail .entry)) (g .first) p)) 0 320) ⌝ }
-{
-    let mut rest = set;
-    let mut kept = Bits::empty();
-    loop {
-        let n = rest.next();
-        let found = n.found;
-        if !found {
-            return kept;
-        }
-        let at = n.at;
-        let t = lift::time_in(lifts, tail, g.first, at);
-        let inside = (q.t1 <= t) & (t <= q.t2);
-        if inside {
-            kept = kept.insert(at);
-        }
-        rest = n.rest;
-    }
-}
-
 // The matches of one segment.
 fn matches(tree: &[u8], lifts: &[u8], tail: &[u8], g: Records, q: Query) -> Sweep
     requires { ⌜ Held (now tree) (now lifts) (now tail) g ⌝ }
     ensures { λ r. ⌜ r ≡ sweptFrom emptyWords (matchesOf (now (tree .entry)) (now (lifts .entry)) (now (tail .entry))
         (g .first) (g .count) (g .buckets) q) ⌝ }
 {
-    let r = Range { k1: q.k1, k2: q.k2 };
-    let s = sweep::sweep_tree(tree, lifts, tail, g, r);
-    let good = s.good;
-    if !good {
-        return s;
-    }
-    let set = s.set;
-    let kept = timed(lifts, tail, g, set, q);
-    Sweep {
-        good: true,
-        set: kept,
-    }
+    let r = Range {
+        t1: q.t1,
+        t2: q.t2,
+        k1: q.k1,
+        k2: q.k2,
+    };
+    sweep::sweep_tree(tree, lifts, tail, g, r)
 }
 
 // Where a closed segment's records stand: all in its pages.

@@ -7,8 +7,7 @@ use Prim.Native.Nat.{ℕ, zero, suc, _+_, _*_, _≤_, _<_}
 use native.Mathlib.Omega.{arith}
 use lib.Dec.{eqb, ltb, leb}
 use lib.ListN.{length, getD}
-use borrow.Author.Tests.{ltb-true, not-true, not-false}
-use Rattle.codec.proofs.Truth.{and-left}
+use borrow.Author.Tests.{ltb-true, not-false}
 use Rattle.flash.specs.Chip.{pageOf}
 use Rattle.skiplist.specs.declared.Pointer.{Pointer}
 use Rattle.form.specs.declared.Form.{Form}
@@ -20,8 +19,8 @@ use Rattle.visit.specs.declared.Log.{Log}
 use Rattle.visit.specs.declared.Query.{Query}
 use Rattle.visit.specs.Inner.Sound.{InSlots}
 use Rattle.walk.specs.declared.Cursor.{Cursor}
-use Rattle.walk.specs.declared.SkipWalk.{SkipWalk}
-use Rattle.walk.specs.Seek.{headerAt, hopAt, hop, hops, skipWalk, reachedBy, isLast, startOf}
+use Rattle.walk.specs.Seek.{SkipWalk, headerAt, hopAt, hop, hops, skipWalk, reachedBy, isLast, startOf}
+use Rattle.walk.specs.Inner.Placed.{hopsAt, hopsLeft}
 use Rattle.walk.specs.Inner.Sound.{Begun}
 
 -- what stands in a list does not hang on the default
@@ -49,50 +48,7 @@ live-inside size slots live p e i l = go (isNone p) (ltb (p .slot) slots) refl i
     go false true f i l = omega (arith, ltb-true (p .slot) slots f)
     go false false f i l = let z : false ≡ true = i in let y : _≡_ {A = ℕ} 0 1 = cc in absurd (omega arith)
 
--- ---- one hop as the code makes it: `p` is the pointer of level k + 1
-
-module _ (nand : List ℕ) (slots : ℕ) (live : Live) (t2 : ℕ) (w : SkipWalk) (k : ℕ) (p : Pointer) (is : p ≡ getD (w .pointers) k none)
-    (a : Bool) (live-is : a ≡ isLive p live) where
-  goes : (b : Bool) → (a && ltb t2 (p .time)) ≡ b
-      → (isLive (getD (w .pointers) k none) live && ltb t2 (getD (w .pointers) k none .time)) ≡ b
-  goes b e = rw (← is, ← live-is) e
-
-  pub hop-down : not (a && ltb t2 (p .time)) ≡ true
-      → _≡_ {A = SkipWalk} (record { good = true; level = k; before = w .before; pointers = w .pointers })
-      (hopAt nand slots live t2 w k)
-  unfolding hopAt
-  hop-down e = let g = goes false (not-true _ e) in rw g
-
-  pub hop-inside : not (a && ltb t2 (p .time)) ≡ false → length nand ≡ slots * 16384 → InSlots slots (w .pointers)
-      → p .slot * 16384 + 16384 ≤ length nand
-  hop-inside e size ps =
-      live-inside (length nand) slots live p size (rw is (ps k)) (sym live-is ∙ and-left a _ (not-false _ e))
-
-  module _ (onward : not (a && ltb t2 (p .time)) ≡ false) (page : List ℕ) (page-is : page ≡ pageOf nand (p .slot) 31) (h : Header)
-      (h-is : h ≡ headerIn (live .form) page slots (w .before)) where
-    read : headerAt (live .form) nand slots (getD (w .pointers) k none) (w .before) ≡ h
-    read = sym (h-is ∙ rw (page-is, is))
-
-    pub hop-on : (level : ℕ) → level ≡ suc k → h .good ≡ true
-        → _≡_ {A = SkipWalk} (record { good = true; level = level; before = h .serial; pointers = h .next })
-        (hopAt nand slots live t2 w k)
-    unfolding hopAt
-    hop-on level e good = let g = goes true (not-false _ onward) in let r = read in rw (g, r, good, e)
-
-    pub hop-spoilt : h .good ≡ false
-        → _≡_ {A = SkipWalk} (record { good = false; level = 0; before = h .serial; pointers = h .next })
-        (hopAt nand slots live t2 w k)
-    unfolding hopAt
-    hop-spoilt bad = let g = goes true (not-false _ onward) in let r = read in rw (g, r, bad)
-
 -- ---- hops that are left: none at the end of the walk, else serial and level
-
-abbrev hopsAt : ℕ → ℕ → ℕ
-hopsAt zero before = 0
-hopsAt (suc k) before = before + suc k
-
-abbrev pub hopsLeft : SkipWalk → ℕ
-hopsLeft w = hopsAt (w .level) (w .before)
 
 pub left-level : (w : SkipWalk) (k : ℕ) → w .level ≡ suc k → hopsLeft w ≡ w .before + suc k
 left-level w k e = ap (λ (l : ℕ). hopsAt l (w .before)) e

@@ -8,85 +8,107 @@ use lib.Dec.{ltb}
 use lib.ListN.{length, getD}
 use borrow.Author.Tests.{not-false, lt-ltb, le-ltb}
 use Rattle.codec.proofs.Truth.{or-left, or-right}
+use Rattle.codec.specs.Number.{numberAt}
 use Rattle.flash.specs.Chip.{pageOf, pagesOf}
+use Rattle.form.specs.declared.Form.the-variants.{New}
 use Rattle.bloom.specs.Bloom.{mayHold}
 use Rattle.bloom.specs.Pages.{sectionCount, sectionsIn}
 use Rattle.skiplist.specs.declared.Pointer.{Pointer}
-use Rattle.skiplist.specs.Skip.{Live, none, isLive}
+use Rattle.skiplist.specs.Skip.{Live, none, isLive, serialsFrom}
+use Rattle.skiplist.specs.PointerBytes.{pointersAt}
 use Rattle.header.specs.declared.Header.{Header}
-use Rattle.header.specs.Header.{headerIn}
-use Rattle.header.proofs.HeaderFacts.{HeaderFacts, good-slots}
+use Rattle.header.specs.Header.{headerIn, headerGood}
+use Rattle.header.proofs.HeaderFacts.{header-facts, good-slots}
 use Rattle.visit.specs.declared.Query.{Query}
 use Rattle.visit.specs.Inner.Sound.{ClosedSound}
 use Rattle.walk.specs.declared.Cursor.{Cursor}
+use Rattle.walk.specs.declared.Seen.{Seen}
+use Rattle.walk.specs.declared.Seen.the-variants.{Passed, Searched}
 use Rattle.walk.specs.declared.Step.{Step}
 use Rattle.walk.specs.declared.Step.the-variants.{End, Damage, Pass, Visit}
-use Rattle.walk.specs.Seek.{headerAt, isLast}
+use Rattle.walk.specs.Seek.{headerAt}
 use Rattle.walk.specs.Advance.{isPassed, cursorAfter, closedOf, advanceOf}
+use Rattle.walk.specs.Inner.Seen.{seenAt, stepOf}
 use Rattle.walk.specs.Inner.Sound.{Sound}
 use Rattle.walk.proofs.Hops.{header-good, live-inside}
 
 -- ---- whether a segment is passed over
 
-module _ (nand : List ℕ) (slot : ℕ) (h : Header) (q : Query) where
-  pub passed-span : (ltb (h .high) (q .k1) || ltb (q .k2) (h .low)) ≡ true → true ≡ isPassed nand slot h q
-  unfolding isPassed
-  passed-span e = rw e
+module _ (nand : List ℕ) (slot : ℕ) (page : List ℕ) (q : Query) (slots before low high : ℕ) (high-is : high ≡ numberAt page 36 4)
+    (low-is : low ≡ numberAt page 32 4) where
+  abbrev seen : Header
+  seen = headerIn New page slots before
 
-  pub passed-not : (ltb (h .high) (q .k1) || ltb (q .k2) (h .low)) ≡ false → q .k1 < q .k2 → false ≡ isPassed nand slot h q
-  unfolding isPassed
-  passed-not e l = rw (e, lt-ltb (q .k1) (q .k2) l)
+  pub passed-span : (ltb high (q .k1) || ltb (q .k2) low) ≡ true → true ≡ isPassed nand slot seen q
+  unfolding isPassed headerIn
+  passed-span e = rw (← high-is, ← low-is, e)
 
-  pub passed-bloom : (ltb (h .high) (q .k1) || ltb (q .k2) (h .low)) ≡ false → q .k2 ≤ q .k1
-      → (pages : List ℕ) → pages ≡ pagesOf nand slot 29 2 → (b : Bool)
-      → b ≡ mayHold (sectionsIn pages (sectionCount (h .count))) (q .k1)
-      → not b ≡ isPassed nand slot h q
-  unfolding isPassed
-  passed-bloom e l pages p b is = rw (e, le-ltb (q .k1) (q .k2) l, ← p, is)
+  pub passed-not : (ltb high (q .k1) || ltb (q .k2) low) ≡ false → q .k1 < q .k2 → false ≡ isPassed nand slot seen q
+  unfolding isPassed headerIn
+  passed-not e l = rw (← high-is, ← low-is, e, lt-ltb (q .k1) (q .k2) l)
 
--- ---- one step as the code makes it
+  pub passed-bloom : (ltb high (q .k1) || ltb (q .k2) low) ≡ false → q .k2 ≤ q .k1
+      → (pages : List ℕ) → pages ≡ pagesOf nand slot 29 2 → (count : ℕ) → count ≡ numberAt page 4 2 → (b : Bool)
+      → b ≡ mayHold (sectionsIn pages (sectionCount count)) (q .k1)
+      → not b ≡ isPassed nand slot seen q
+  unfolding isPassed headerIn
+  passed-bloom e l pages p count n b is = rw (← high-is, ← low-is, e, le-ltb (q .k1) (q .k2) l, ← p, ← n, is)
 
-module _ (nand : List ℕ) (slots : ℕ) (live : Live) (q : Query) (c : Cursor) (a : Bool) (live-is : a ≡ isLive (c .next) live) where
-  ends : (b : Bool) → (c .last || not a) ≡ b → (c .last || not (isLive (c .next) live)) ≡ b
-  ends b e = rw (← live-is) e
+-- ---- a segment as it is seen
 
-  pub advance-end : (c .last || not a) ≡ true → End ≡ advanceOf nand slots live q c
+module _ (nand : List ℕ) (slots : ℕ) (q : Query) (slot before : ℕ) (page : List ℕ) (page-is : page ≡ pageOf nand slot 31) (good : Bool)
+    (good-is : good ≡ headerGood New page slots before) where
+  abbrev shown : Header
+  shown = headerIn New page slots before
+
+  pub seen-spoilt : not good ≡ true → Damage ≡ seenAt nand slots q slot before
+  unfolding seenAt headerIn
+  seen-spoilt e = rw (← page-is, ← good-is, e)
+
+  module _ (sound : not good ≡ false) where
+    pub seen-count : (1 ≤ numberAt page 4 2) × (numberAt page 4 2 ≤ 320)
+    unfolding headerIn
+    seen-count = let f = header-facts New page slots before (sym good-is ∙ not-false good sound) .counts in (f .some, f .most)
+
+    module _ (passed : Bool) (passed-is : passed ≡ isPassed nand slot shown q) (first : Pointer)
+        (first-is : first ≡ getD (pointersAt New page 40) 0 none) (start serial : ℕ) (start-is : start ≡ numberAt page 16 8)
+        (serial-is : serial ≡ numberAt page 0 4) where
+      abbrev last : Bool
+      last = ltb start (q .t1)
+
+      pub seen-passed : passed ≡ true
+          → stepOf slot (Passed last (first .slot) (first .serial) (first .time) serial) ≡ seenAt nand slots q slot before
+      unfolding seenAt headerIn
+      seen-passed e =
+          let p = sym passed-is ∙ e in
+          rw (← page-is, p, ← good-is, sound, ← first-is, start-is, serial-is)
+
+      pub seen-searched : passed ≡ false → (count buckets : ℕ) → count ≡ numberAt page 4 2 → buckets ≡ numberAt page 6 1
+          → stepOf slot (Searched count buckets last (first .slot) (first .serial) (first .time) serial) ≡ seenAt nand slots q slot before
+      unfolding seenAt headerIn
+      seen-searched e count buckets count-is buckets-is =
+          let p = sym passed-is ∙ e in
+          rw (← page-is, p, ← good-is, sound, ← first-is, start-is, serial-is, count-is, buckets-is)
+
+-- ---- one step, from what is seen
+
+module _ (nand : List ℕ) (slots oldest : ℕ) (q : Query) (c : Cursor) (end : Bool)
+    (end-is : end ≡ (c .last || not (isLive (c .next) (serialsFrom oldest)))) where
+  pub advance-end : end ≡ true → End ≡ advanceOf nand slots (serialsFrom oldest) q c
   unfolding advanceOf
-  advance-end e = let f = ends true e in rw f
+  advance-end e = let f = sym end-is ∙ e in rw f
 
-  module _ (onward : (c .last || not a) ≡ false) where
+  module _ (onward : end ≡ false) where
     pub advance-inside : length nand ≡ slots * 16384 → Sound slots c → c .next .slot * 16384 + 16384 ≤ length nand
     advance-inside size sound =
-        live-inside (length nand) slots live (c .next) size (sound (or-left (c .last) (not a) onward))
-        (sym live-is ∙ not-false a (or-right (c .last) (not a) onward))
+        let f = sym end-is ∙ onward in
+        live-inside (length nand) slots (serialsFrom oldest) (c .next) size (sound (or-left (c .last) _ f))
+        (not-false _ (or-right (c .last) _ f))
 
-    module _ (page : List ℕ) (page-is : page ≡ pageOf nand (c .next .slot) 31) (h : Header)
-        (h-is : h ≡ headerIn (live .form) page slots (c .before)) where
-      pub read : h ≡ headerAt (live .form) nand slots (c .next) (c .before)
-      read = h-is ∙ rw page-is
-
-      pub advance-damage : not (h .good) ≡ true → Damage ≡ advanceOf nand slots live q c
-      unfolding advanceOf
-      advance-damage bad = let f = ends false onward in rw (f, ← read, bad)
-
-      module _ (good : not (h .good) ≡ false) where
-        pub header-sound : HeaderFacts h slots (c .before)
-        header-sound = header-good (live .form) nand slots (c .before) (c .next) h read (not-false _ good)
-
-        module _ (passed : Bool) (passed-is : passed ≡ isPassed nand (c .next .slot) h q) (first : Pointer)
-            (first-is : first ≡ getD (h .next) 0 none) where
-          abbrev after : Cursor
-          after = record { good = true; last = isLast (live .form) (h .start) (q .t1); next = first; before = h .serial }
-
-          pub advance-pass : passed ≡ true → Pass after ≡ advanceOf nand slots live q c
-          unfolding advanceOf
-          advance-pass e = let f = ends false onward in let p = sym passed-is ∙ e in rw (f, ← read, good, p, first-is)
-
-          pub advance-visit : passed ≡ false
-              → Visit (record { slot = c .next .slot; count = h .count; buckets = h .buckets }) after
-              ≡ advanceOf nand slots live q c
-          unfolding advanceOf
-          advance-visit e = let f = ends false onward in let p = sym passed-is ∙ e in rw (f, ← read, good, p, first-is)
+    pub advance-on : (seen : Seen) (step : Step) → step ≡ stepOf (c .next .slot) seen
+        → stepOf (c .next .slot) seen ≡ seenAt nand slots q (c .next .slot) (c .before) → step ≡ advanceOf nand slots (serialsFrom oldest) q c
+    unfolding advanceOf seenAt
+    advance-on seen step made is = let f = sym end-is ∙ onward in rw f (made ∙ is)
 
 -- ---- what a step leads to
 

@@ -1,1 +1,3 @@
+pub mod Placed
+pub mod Seen
 pub mod Sound

@@ -15,7 +15,14 @@ use Rattle.header.specs.Header.{headerIn}
 use Rattle.visit.specs.declared.Log.{Log}
 use Rattle.visit.specs.declared.Query.{Query}
 use Rattle.walk.specs.declared.Cursor.{Cursor}
-use Rattle.walk.specs.declared.SkipWalk.{SkipWalk}
+
+-- the skip walk: no damage so far; the level it is at, 4 down to 1, 0 at its end; the serial of the header loaded last, or the open
+-- serial; the pointers that it goes on from
+pub record SkipWalk : Type 0 where
+  pub good : Bool
+  pub level : ℕ
+  pub before : ℕ
+  pub pointers : List Pointer
 
 -- the header that a pointer leads to; its serial is to be below the one before
 abbrev pub headerAt : Form → List ℕ → ℕ → Pointer → ℕ → Header

@@ -1,22 +1,26 @@
 // A search from segment to segment (document 01, "Search"): the skip walk, then level 1.
 use flash::Page;
 use form::Form;
-use header::Header;
 use skiplist::LEVELS;
 use skiplist::Pointer;
 use visit::Closed;
 use visit::Log;
 use visit::Query;
 ghost use mathlib.Core.Path.{_≡_};
-ghost use Prim.Native.Nat.{_+_, _-_, _*_, _<_, _≤_};
+ghost use mathlib.Core.Bool.{not, _||_};
+ghost use Prim.Native.Nat.{ℕ, suc, _+_, _*_, _<_, _≤_};
 ghost use lib.ListN.{length, getD};
-ghost use Rattle.flash.specs.Chip.{slotWidth};
+ghost use Rattle.codec.specs.Number.{numberAt};
+ghost use Rattle.flash.specs.Chip.{pageWidth, slotWidth};
+ghost use Rattle.form.specs.declared.Form.the-variants.{New};
+ghost use Rattle.header.specs.Header.{headerIn};
 ghost use Rattle.lift.specs.Rows.{liftsMost};
-ghost use Rattle.skiplist.specs.Skip.{levels, none, serialsFrom};
+ghost use Rattle.skiplist.specs.Skip.{levels, none, isLive, serialsFrom};
 ghost use Rattle.visit.specs.Inner.Sound.{InSlots};
-ghost use Rattle.walk.specs.Seek.{hopAt, skipWalk, startOf};
-ghost use Rattle.walk.specs.Advance.{isPassed, advanceOf};
-ghost use Rattle.walk.specs.Inner.Sound.{Sound};
+ghost use Rattle.walk.specs.Seek.{skipWalk, startOf};
+ghost use Rattle.walk.specs.Advance.{isPassed};
+ghost use Rattle.walk.specs.Inner.Placed.{Inside, PlaceSound, pointersOf, loadedAt, walkAt, walkedOn};
+ghost use Rattle.walk.specs.Inner.Seen.{seenAt, cursorOf, stepOf};
 
 // The next segment to go to, the serial before it, and whether the last one has been done.
 pub struct Cursor {
@@ -36,15 +40,24 @@ pub enum Step {
     Visit(Closed, Cursor),
 }
 
-// The skip walk: the level it is at, 0 at its end, and the pointers it goes on from.
-pub struct SkipWalk {
+// A closed segment as its header shows it: damage, passed over, or to be searched with so many lifts and buckets; then, of the cursor
+// behind it, whether it is the last, its pointer's slot, serial and time, and its own serial.
+pub enum Seen {
+    Spoilt,
+    Passed(bool, u16, u32, u64, u32),
+    Searched(u16, u8, bool, u16, u32, u64, u32),
+}
+
+// Where the skip walk stands: at the heads of the state, or at the header in a slot. It keeps the place and not the pointers: these are
+// read from the header's bytes when they are needed.
+struct Place {
     // no damage so far
-    pub good: bool,
-    // the level, 4 down to 1
-    pub level: usize,
-    // the serial of the header loaded last, or the open serial; the pointers that the walk goes on from
-    pub before: u32,
-    pub pointers: [Pointer; LEVELS],
+    good: bool,
+    // no header has been loaded: it stands at the heads
+    first: bool,
+    slot: usize,
+    // the serial of the header loaded last, or the open serial
+    before: u32,
 }
 
 // The pointer of level k + 1.
@@ -55,62 +68,79 @@ fn pointer_of(pointers: [Pointer; LEVELS], k: usize) -> Pointer
     pointers[k]
 }
 
-// One header on, or one level down.
-fn hop(nand: &[u8], slots: u64, oldest: u32, t2: u64, w: SkipWalk) -> SkipWalk
-    requires { ⌜ (length (now nand) ≡ slots * slotWidth) × (0 < w .level) × (w .level ≤ levels) ⌝ }
-    requires { ⌜ InSlots slots (w .pointers) ⌝ }
-    ensures { λ r. ⌜ r ≡ hopAt (now (nand .entry)) slots (serialsFrom oldest) t2 w (w .level - 1) ⌝ }
+// The pointer of level k + 1 where the walk stands.
+fn pointer_from(nand: &[u8], heads: [Pointer; LEVELS], w: Place, k: usize) -> Pointer
+    requires { ⌜ Inside (now nand) w × (k < levels) ⌝ }
+    ensures { λ r. ⌜ r ≡ getD (pointersOf (now (nand .entry)) heads w) k none ⌝ }
 {
-    let pointers = w.pointers;
-    let level = w.level - 1;
-    let p = pointer_of(pointers, level);
-    let onward = p.is_live(oldest) & (t2 < p.time);
-    if !onward {
-        return SkipWalk {
-            good: true,
-            level,
-            before: w.before,
-            pointers,
-        };
+    if w.first {
+        return pointer_of(heads, k);
     }
-    let slot = p.slot as usize;
+    let page = flash::pages_of(nand, w.slot, Page(flash::HEADER_LAST), 1);
+    header::pointer_in(page, Form::New, k)
+}
+
+// The header in a slot is loaded.
+fn loaded(nand: &[u8], slots: u64, slot: usize, before: u32) -> Place
+    requires { ⌜ slot * slotWidth + slotWidth ≤ length (now nand) ⌝ }
+    ensures { λ r. ⌜ r ≡ loadedAt (now (nand .entry)) slots slot before ⌝ }
+{
     let page = flash::pages_of(nand, slot, Page(flash::HEADER_LAST), 1);
-    let h = header::header_in(page, Form::New, slots, w.before);
-    let next = h.next;
-    let good = h.good;
-    if good {
-        return SkipWalk {
-            good: true,
-            level: w.level,
-            before: h.serial,
-            pointers: next,
-        };
+    let good = header::header_good(page, Form::New, slots, before);
+    let serial = header::serial_in(page);
+    Place {
+        good,
+        first: false,
+        slot,
+        before: serial,
     }
-    SkipWalk {
-        good: false,
-        level: 0,
-        before: h.serial,
-        pointers: next,
+}
+
+// On at level k + 1, while its pointer is live and its time is above t2.
+fn along(
+    nand: &[u8],
+    slots: u64,
+    heads: [Pointer; LEVELS],
+    oldest: u32,
+    t2: u64,
+    k: usize,
+    from: Place,
+) -> Place
+    requires { ⌜ (length (now nand) ≡ slots * slotWidth) × (k < levels) ⌝ }
+    requires { ⌜ PlaceSound (now nand) slots heads from ⌝ }
+    ensures leads { λ r. ⌜ walkedOn (now (nand .entry)) slots (serialsFrom oldest) t2 (walkAt (now (nand .entry)) heads k r)
+        ≡ walkedOn (now (nand .entry)) slots (serialsFrom oldest) t2 (walkAt (now (nand .entry)) heads (suc k) from) ⌝ }
+    ensures sound { λ r. ⌜ PlaceSound (now (nand .entry)) slots heads r ⌝ }
+{
+    let mut w = from;
+    loop {
+        let p = pointer_from(nand, heads, w, k);
+        let onward = w.good & (p.is_live(oldest) & (t2 < p.time));
+        if !onward {
+            return w;
+        }
+        w = loaded(nand, slots, p.slot as usize, w.before);
     }
 }
 
 // By the skip pointers, level 4 down to 1, to the newest closed segment with start not above t2.
-fn seek(nand: &[u8], g: Log, t2: u64) -> SkipWalk
+fn seek(nand: &[u8], g: Log, t2: u64) -> Place
     requires { ⌜ length (now nand) ≡ g .slots * slotWidth ⌝ }
     requires { ⌜ InSlots (g .slots) (g .heads) ⌝ }
-    ensures { λ r. ⌜ r ≡ skipWalk (now (nand .entry)) g (serialsFrom (g .oldest)) t2 ⌝ }
+    ensures leads { λ r. ⌜ walkAt (now (nand .entry)) (g .heads) 0 r ≡ skipWalk (now (nand .entry)) g (serialsFrom (g .oldest)) t2 ⌝ }
+    ensures inside { λ r. ⌜ Inside (now (nand .entry)) r ⌝ }
 {
     let heads = g.heads;
-    let mut w = SkipWalk {
+    let w = Place {
         good: true,
-        level: LEVELS,
+        first: true,
+        slot: 0,
         before: g.current,
-        pointers: heads,
     };
-    while 0 < w.level {
-        w = hop(nand, g.slots, g.oldest, t2, w);
-    }
-    w
+    let a = along(nand, g.slots, heads, g.oldest, t2, 3, w);
+    let b = along(nand, g.slots, heads, g.oldest, t2, 2, a);
+    let c = along(nand, g.slots, heads, g.oldest, t2, 1, b);
+    along(nand, g.slots, heads, g.oldest, t2, 0, c)
 }
 
 // Where the closed segments begin; at the end where the open one has lifts and its start is not above t1.
@@ -131,8 +161,8 @@ pub fn start_of(nand: &[u8], g: Log, q: Query) -> Cursor
     }
     let w = seek(nand, g, q.t2);
     let good = w.good;
-    let pointers = w.pointers;
-    let first = pointer_of(pointers, 0);
+    let heads = g.heads;
+    let first = pointer_from(nand, heads, w, 0);
     Cursor {
         good,
         last: !good,
@@ -141,12 +171,13 @@ pub fn start_of(nand: &[u8], g: Log, q: Query) -> Cursor
     }
 }
 
-// Passed over: its load span misses the range or, for equal loads, its Bloom pages miss the load.
-fn is_passed(nand: &[u8], slot: usize, h: Header, q: Query) -> bool
-    requires { ⌜ (slot * slotWidth + slotWidth ≤ length (now nand)) × (1 ≤ h .count) × (h .count ≤ liftsMost) × (1 ≤ q .k1) ⌝ }
-    ensures { λ r. ⌜ r ≡ isPassed (now (nand .entry)) slot h q ⌝ }
+// Passed over: its load span misses the range or, for equal loads, its Bloom pages miss the load. h is its header page.
+fn is_passed(nand: &[u8], slot: usize, h: &[u8], q: Query) -> bool
+    requires { ⌜ (slot * slotWidth + slotWidth ≤ length (now nand)) × (length (now h) ≡ pageWidth) × (1 ≤ q .k1) ⌝ }
+    requires { ⌜ (1 ≤ numberAt (now h) 4 2) × (numberAt (now h) 4 2 ≤ liftsMost) ⌝ }
+    ensures { λ r. ⌜ ((slots before : ℕ) → r ≡ isPassed (now (nand .entry)) slot (headerIn New (now (h .entry)) slots before) q) ⌝ }
 {
-    let misses = (h.high < q.k1) | (q.k2 < h.low);
+    let misses = (header::high_in(h) < q.k1) | (q.k2 < header::low_in(h));
     if misses {
         return true;
     }
@@ -154,43 +185,79 @@ fn is_passed(nand: &[u8], slot: usize, h: Header, q: Query) -> bool
         return false;
     }
     let pages = flash::pages_of(nand, slot, Page(flash::BLOOM_FIRST), 2);
-    let held = bloom::may_hold(pages, h.count, q.k1);
+    let count = header::count_in(h);
+    let held = bloom::may_hold(pages, count, q.k1);
     !held
 }
 
-// One segment on.
-pub fn advance(nand: &[u8], slots: u64, oldest: u32, q: Query, c: Cursor) -> Step
-    requires { ⌜ (length (now nand) ≡ slots * slotWidth) × (1 ≤ q .k1) ⌝ }
-    requires { ⌜ Sound slots c ⌝ }
-    ensures { λ r. ⌜ r ≡ advanceOf (now (nand .entry)) slots (serialsFrom oldest) q c ⌝ }
+// What is seen of the segment in a slot. In numbers alone, so that it stays a call that copies nothing.
+pub fn look(nand: &[u8], slots: u64, q: Query, slot: u16, before: u32) -> Seen
+    requires { ⌜ (slot * slotWidth + slotWidth ≤ length (now nand)) × (1 ≤ q .k1) ⌝ }
+    ensures { λ r. ⌜ stepOf slot r ≡ seenAt (now (nand .entry)) slots q slot before ⌝ }
+{
+    let at = slot as usize;
+    let h = flash::pages_of(nand, at, Page(flash::HEADER_LAST), 1);
+    let good = header::header_good(h, Form::New, slots, before);
+    if !good {
+        return Seen::Spoilt;
+    }
+    let first = header::pointer_in(h, Form::New, 0);
+    let last = header::start_in(h) < q.t1;
+    let serial = header::serial_in(h);
+    if is_passed(nand, at, h, q) {
+        return Seen::Passed(last, first.slot, first.serial, first.time, serial);
+    }
+    let count = header::count_in(h);
+    let buckets = header::buckets_in(h);
+    Seen::Searched(
+        count,
+        buckets,
+        last,
+        first.slot,
+        first.serial,
+        first.time,
+        serial,
+    )
+}
+
+// The last segment has been done, or there is none to go to.
+pub fn at_end(c: Cursor, oldest: u32) -> bool
+    ensures { λ r. ⌜ r ≡ (c .last || not (isLive (c .next) (serialsFrom oldest))) ⌝ }
 {
     let p = c.next;
-    let ends = c.last | !p.is_live(oldest);
-    if ends {
-        return Step::End;
-    }
-    let slot = p.slot as usize;
-    let page = flash::pages_of(nand, slot, Page(flash::HEADER_LAST), 1);
-    let h = header::header_in(page, Form::New, slots, c.before);
-    let good = h.good;
-    if !good {
-        return Step::Damage;
-    }
-    let next = h.next;
-    let first = pointer_of(next, 0);
-    let d = Cursor {
+    c.last | !p.is_live(oldest)
+}
+
+fn cursor_at(last: bool, slot: u16, serial: u32, time: u64, before: u32) -> Cursor
+    ensures { λ r. ⌜ r ≡ cursorOf last slot serial time before ⌝ }
+{
+    let next = Pointer::new(slot, serial, time);
+    Cursor {
         good: true,
-        last: h.start < q.t1,
-        next: first,
-        before: h.serial,
-    };
-    if is_passed(nand, slot, h, q) {
-        return Step::Pass(d);
+        last,
+        next,
+        before,
     }
-    let s = Closed {
-        slot,
-        count: h.count,
-        buckets: h.buckets,
-    };
-    Step::Visit(s, d)
+}
+
+// One segment on, from what was seen of it.
+pub fn step_of(slot: u16, seen: Seen) -> Step
+    ensures { λ r. ⌜ r ≡ stepOf slot seen ⌝ }
+{
+    match seen {
+        Seen::Spoilt => Step::Damage,
+        Seen::Passed(last, to, serial, time, before) => {
+            let d = cursor_at(last, to, serial, time, before);
+            Step::Pass(d)
+        }
+        Seen::Searched(count, buckets, last, to, serial, time, before) => {
+            let d = cursor_at(last, to, serial, time, before);
+            let s = Closed {
+                slot: slot as usize,
+                count,
+                buckets,
+            };
+            Step::Visit(s, d)
+        }
+    }
 }

@@ -6,62 +6,46 @@ use borrow.Author.Needs.{needs}
 use Rattle.header.proofs.header_in.Statement.{statement}
 use Rattle.header.proofs.header_in.Tie as tie
 
-form-in-requires : tie.Need-form-in-requires
-form-in-requires c κs = search needs
-
-get-u32-requires : tie.Need-get-u32-requires
-get-u32-requires c κs = search needs
+header-good-requires : tie.Need-header-good-requires
+header-good-requires c κs = search needs
 
 pointers-at-requires : tie.Need-pointers-at-requires
-pointers-at-requires c κs = omega (arith, serial-most (c .before .before .before .args .form), c .before .before .before .pre)
+pointers-at-requires c κs = omega (arith, serial-most (c .before .before .args .form), c .before .before .pre)
 
-counts-in-requires : tie.Need-counts-in-requires
-counts-in-requires c κs = search needs
+serial-in-requires : tie.Need-serial-in-requires
+serial-in-requires c κs = search needs
 
-span-in-requires : tie.Need-span-in-requires
-span-in-requires c κs = search needs
+count-in-requires : tie.Need-count-in-requires
+count-in-requires c κs = search needs
 
-pointers-good-requires : tie.Need-pointers-good-requires
-pointers-good-requires c κs = search needs
+buckets-in-requires : tie.Need-buckets-in-requires
+buckets-in-requires c κs = search needs
 
-get-u16-requires : tie.Need-get-u16-requires
-get-u16-requires c κs = search needs
+start-in-requires : tie.Need-start-in-requires
+start-in-requires c κs = search needs
 
-get-u8-requires : tie.Need-get-u8-requires
-get-u8-requires c κs = search needs
+low-in-requires : tie.Need-low-in-requires
+low-in-requires c κs = search needs
 
-get-u64-requires : tie.Need-get-u64-requires
-get-u64-requires c κs = search needs
-
-get-u32-requires-2 : tie.Need-get-u32-requires-2
-get-u32-requires-2 c κs = search needs
-
-get-u32-requires-3 : tie.Need-get-u32-requires-3
-get-u32-requires-3 c κs = search needs
+high-in-requires : tie.Need-high-in-requires
+high-in-requires c κs = search needs
 
 returns : tie.Need-returns
 returns c =
-    let p = c .before .before .before .before .before in
-    header-made _ _ _ _ _ _ _ _ _ _ _ _ _ _ _ (p .before .before .before .before .before .form-in .ensures)
-    (p .before .before .before .before .get-u32 .ensures) (p .before .before .before .pointers-at .ensures)
-    (p .before .before .counts-in .ensures) (p .before .span-in .ensures) (p .pointers-good .ensures)
-    (c .before .before .before .before .get-u16 .ensures)
-    (c .before .before .before .get-u8 .ensures) (c .before .before .get-u64 .ensures) (c .before .get-u322 .ensures)
-    (c .get-u323 .ensures)
+    header-made _ _ _ _ _ _ _ _ _ _ _ _ (c .before .before .before .before .before .before .before .header-good .ensures) (c .before .before .before .before .before .before .pointers-at .ensures)
+    (c .before .before .before .before .before .serial-in .ensures) (c .before .before .before .before .count-in .ensures) (c .before .before .before .buckets-in .ensures)
+    (c .before .before .start-in .ensures) (c .before .low-in .ensures) (c .high-in .ensures)
 
 pub header-in-spec : {M : Type 1} → statement M
 header-in-spec =
     tie.close
     (tie.spec
-    form-in-requires
-    get-u32-requires
+    header-good-requires
     pointers-at-requires
-    counts-in-requires
-    span-in-requires
-    pointers-good-requires
-    get-u16-requires
-    get-u8-requires
-    get-u64-requires
-    get-u32-requires-2
-    get-u32-requires-3
+    serial-in-requires
+    count-in-requires
+    buckets-in-requires
+    start-in-requires
+    low-in-requires
+    high-in-requires
     returns)

@@ -1,96 +1,57 @@
--- `search`: a refusal for grounds 1 to 6, else what the chips hold.
-use mathlib.Core.Path.{_≡_, sym, ap, ap₂, subst, _∙_}
+-- `search`: what `search_from` gives of the state's own log and page.
+use mathlib.Core.Path.{_≡_, refl, sym, ap₂, _∙_}
 use lib.ListN.{length}
 use mir.Syntax.{w32}
 use mir.ValLaws.{toZ-ofZ}
-use Rattle.lift.specs.Limits.{loadOk, stored}
-use Rattle.lift.proofs.Codes.{within-limits}
-use Rattle.visit.specs.Inner.Sound.{LogSound}
-use Rattle.questions.proofs.Asked.{Asked, asked, search-refused, search-done}
-use native.Mathlib.Omega.{arith}
+use Rattle.store.specs.World.{world}
+use Rattle.questions.specs.Queries.{searchOutcome}
+use Rattle.questions.proofs.Asked.{log-sound}
 use borrow.Author.Needs.{needs}
 use Rattle.questions.proofs.search.Statement.{statement}
 use Rattle.questions.proofs.search.Tie as tie
-use Rattle.questions.specs.Inner.Asked.{askedGround}
 
-asked-ground-requires : tie.Need-asked-ground-requires
-asked-ground-requires c κs = search needs
-
--- what `asked_ground` judges, of the loads themselves
-judged : (c : tie.After-asked-ground)
-    → let a = c .before .before .before .before .args in c .asked-ground .result ≡ askedGround (a .s) (length (a .nand .now))
-    (length (a .nor .now)) (a .slots) (a .t1) (a .t2) (a .k1) (a .k2)
-judged c =
-    let s = c .before .before .before .before in
-    c .asked-ground .ensures
-    ∙ ap₂ (askedGround (s .args .s) (length (s .args .nand .now)) (length (s .args .nor .now)) (s .args .slots) (s .args .t1) (s .args .t2))
-    (toZ-ofZ w32 (s .args .k1) (s .fits .k1)) (toZ-ofZ w32 (s .args .k2) (s .fits .k2))
-
-returns : tie.Need-returns
-returns c =
-    let a = c .before .before .before .before .before .args in
-    search-refused (a .nand .now) (a .nor .now) _ _ _ _ _ _ _ _ (judged (c .before)) (c .if1 .taken)
-
--- grounds 1 to 6 do not hold
-zero : (c : tie.Else1) → c .before .asked-ground .result ≡ 0
-zero c = omega (arith, c .if1 .left)
-
-enters : (c : tie.Else1)
-    → let a = c .before .before .before .before .before .args in Asked (a .s) (a .nand .now) (a .nor .now) (a .slots) (a .k1) (a .k2)
-enters c = asked _ _ _ _ _ _ _ _ (sym (judged (c .before)) ∙ zero c)
-
-stored-requires : tie.Need-stored-requires
-stored-requires c κs =
-    let s = c .before .before .before .before .before in
-    ap loadOk (toZ-ofZ w32 (s .args .k1) (s .fits .k1)) ∙ enters c .low
-
-stored-requires-2 : tie.Need-stored-requires-2
-stored-requires-2 c κs =
-    let s = c .before .before .before .before .before .before in
-    ap loadOk (toZ-ofZ w32 (s .args .k2) (s .fits .k2)) ∙ enters (c .before) .high
-
-low-is : (c : tie.After-stored) → c .stored .result ≡ stored (c .before .before .before .before .before .before .args .k1)
-low-is c =
-    let s = c .before .before .before .before .before .before in
-    c .stored .ensures ∙ ap stored (toZ-ofZ w32 (s .args .k1) (s .fits .k1))
-
-high-is : (c : tie.After-stored2) → c .stored2 .result ≡ stored (c .before .before .before .before .before .before .before .args .k2)
-high-is c =
-    let s = c .before .before .before .before .before .before .before in
-    c .stored2 .ensures ∙ ap stored (toZ-ofZ w32 (s .args .k2) (s .fits .k2))
+ground-requires : tie.Need-ground-requires
+ground-requires c κs = search needs
 
 log-of-requires : tie.Need-log-of-requires
 log-of-requires c κs = search needs
 
-search-in-requires : tie.Need-search-in-requires
-search-in-requires c κs =
-    let n = c .before .before .before .before .before in
-    let a = n .before .before .before .before .before .args in (
-      subst (LogSound (a .nand .now) (a .nor .now)) (sym (c .before .log-of .ensures)) (enters n .sound),
-      omega (arith, low-is (c .before .before .before .before), within-limits (a .k1) (enters n .low) .low),
+page-long : (c : tie.After-log-of) → length (c .before .before .before .before .before .before .args .s .page) ≡ 512
+page-long c = search needs
+
+slice-aggregate-search-from : tie.Need-slice-aggregate-search-from
+slice-aggregate-search-from c = sym (page-long (c .before))
+
+search-from-requires : tie.Need-search-from-requires
+search-from-requires c κs =
+    let l = c .before .before in
+    let n = l .before .before in
+    let a = n .before .before .before .before .args in (
+      λ z. log-sound (a .nand .now) (a .nor .now) (a .s) (a .slots) _ (n .ground .ensures) z _ (l .log-of .ensures),
+      page-long l,
     )
 
 same-length : tie.Need-same-length
 same-length c = search needs
 
-returns-2 : tie.Need-returns-2
-returns-2 c =
-    let g = c .before .before .before .before in
-    let h = g .before .before in
-    let n = h .before .before in
-    let a = n .before .before .before .before .before .args in
-    search-done (a .nand .now) (a .nor .now) (a .s) (a .slots) (a .t1) (a .t2) (a .k1) (a .k2) _ _ (judged (n .before)) (zero n) _ _ _
-    (g .log-of .ensures) (low-is (h .before)) (high-is h) _ (c .before .before .search-in .ensures)
+returns : tie.Need-returns
+returns c =
+    let f = c .before .before in
+    let l = f .before .before .before in
+    let n = l .before .before in
+    let s = n .before .before .before .before in
+    let a = s .args in
+    f .search-from .ensures (a .s) (a .slots) (n .ground .ensures) (l .log-of .ensures) refl
+    ∙ ap₂ (λ k1 k2. searchOutcome (world (a .nand .now) (a .nor .now) (a .s)) (a .slots) (a .t1) (a .t2) k1 k2 (a .area .now))
+    (toZ-ofZ w32 (a .k1) (s .fits .k1)) (toZ-ofZ w32 (a .k2) (s .fits .k2))
 
 pub search-spec : {M : Type 1} → statement M
 search-spec =
     tie.close
     (tie.spec
-    asked-ground-requires
-    returns
-    stored-requires
-    stored-requires-2
+    ground-requires
     log-of-requires
-    search-in-requires
+    slice-aggregate-search-from
+    search-from-requires
     same-length
-    returns-2)
+    returns)

@@ -1,5 +1,5 @@
 -- The fields of a state in the groups that the code writes. Assumes nothing.
-use mathlib.Core.List.{List, _++_}
+use mathlib.Core.List.{List, [], _++_}
 use Prim.Native.Nat.{ℕ}
 use lib.IntN.{ℤ}
 use Rattle.codec.specs.Number.{bytes}
@@ -35,3 +35,8 @@ spanBytes s = bytes 8 (s .start) ++ loadBytes (s .low) ++ loadBytes (s .high)
 unfoldable pub fieldsBytes : Form → List ℕ → Counters → List Pointer → List ℤ → List ℕ → List ℕ → Span → List ℕ
 fieldsBytes f live c heads loads page section s =
     (((((countersBytes c ++ live) ++ pointersBytes f heads) ++ loadsBytes loads) ++ page) ++ section) ++ spanBytes s
+
+-- the same in form 1 with the bytes of the heads as they stand
+unfoldable pub fieldsKept : List ℕ → Counters → List ℤ → List ℕ → List ℕ → Span → List ℕ
+fieldsKept heads c loads page section s =
+    (((((countersBytes c ++ []) ++ heads) ++ loadsBytes loads) ++ page) ++ section) ++ spanBytes s

@@ -14,23 +14,23 @@ use Rattle.form.specs.declared.Form.{Form}
 use Rattle.form.specs.declared.Form.the-variants.{New}
 use Rattle.bounds.specs.Grounds.{ground, liftGround}
 use Rattle.store.specs.declared.State.{State}
-use Rattle.store.specs.World.{World, dropWorld, putWorld, fillsPage}
+use Rattle.store.specs.World.{World, dropWorld, putWorld}
 use Rattle.store.specs.Calls.{firstGrounds, dropsFirst, planOf, roomWorld, appendDamage, appendUnerased}
 
 -- grounds 1 to 3 alone
 unfoldable pub boundsGround : Form → State → ℕ → ℕ → ℕ → ℕ → ℕ
 boundsGround f s live nandLength norLength slots = firstGrounds f s live nandLength norLength slots 0
 
--- the code's plan fits the state: a full segment has lifts, any other has room for one
-pub record Suits (s : State) (p : Plan) : Type 0 where
-  pub fits : Fitting (s .buckets) p
-  pub full : isNoRoom (meaning p) ≡ true → 1 ≤ s .count
-  pub room : isNoRoom (meaning p) ≡ false → s .count < 320
+-- the code's plan fits a segment of so many buckets and lifts: a full one has lifts, any other has room for one
+pub record Suits (buckets count : ℕ) (p : Plan) : Type 0 where
+  pub fits : Fitting buckets p
+  pub full : isNoRoom (meaning p) ≡ true → 1 ≤ count
+  pub room : isNoRoom (meaning p) ≡ false → count < 320
 
 -- what holds of an append that no ground refuses, and of the code's plan for it
 pub record Accepted (w : World) (slots time : ℕ) (load : ℤ) (p : Plan) : Type 0 where
   pub bounds : boundsGround New (w .state) 0 (length (w .nand)) (length (w .nor)) slots ≡ 0
-  pub suits : Suits (w .state) p
+  pub suits : Suits (w .state .buckets) (w .state .count) p
   pub load-ok : loadOk load ≡ true
   pub is : meaning p ≡ planOf w load
 
@@ -44,9 +44,9 @@ unfoldable pub laterGround : World → ℕ → ℤ → Tree.Plan → ℕ
 laterGround w slots load p =
     ground 10 (appendDamage (roomWorld w slots p) slots load p) (ground 11 (appendUnerased w (roomWorld w slots p) slots p) 0)
 
--- the lift goes into the open segment as it is and fills no page
+-- the lift goes into the open segment as it is: no close and no drop comes first
 unfoldable pub isPlain : State → ℕ → Tree.Plan → Bool
-isPlain s slots p = not ((isNoRoom p || dropsFirst s slots) || fillsPage s)
+isPlain s slots p = not (isNoRoom p || dropsFirst s slots)
 
 -- that drop, if it is due
 unfoldable pub dropDue : World → ℕ → World

@@ -1,11 +1,10 @@
-// The pieces of an append that the calls over byte areas share with it: the plan with its grounds, the test for an ordinary lift, and the
-// carrying out. They are no calls: the last two ask what their callers show.
+// The pieces of an append: the plan with its grounds, and the carrying out, which the calls over byte areas share with it. They are no
+// calls: the second asks what its callers show.
 use crate::State;
 use grow::Plan;
 use lift::NOTE_BYTES;
 ghost use mathlib.Core.Path.{_≡_};
 ghost use mathlib.Core.Bool.{true};
-ghost use Prim.Native.Nat.{_≤_};
 ghost use lib.ListN.{length};
 ghost use Rattle.lift.specs.Limits.{loadOk};
 ghost use Rattle.form.specs.declared.Form.the-variants.{New};
@@ -13,7 +12,7 @@ ghost use Rattle.grow.specs.Inner.Meaning.{meaning};
 ghost use Rattle.store.specs.World.{world};
 ghost use Rattle.store.specs.Calls.{appendGround};
 ghost use Rattle.store.specs.Inner.Pieces as Pieces;
-ghost use Rattle.store.specs.Inner.Pieces.{Suits, Accepted, isPlain, boundsGround};
+ghost use Rattle.store.specs.Inner.Pieces.{Suits, Accepted, boundsGround};
 
 // An append's number, and its plan where that is 0.
 pub struct Planned {
@@ -34,20 +33,8 @@ pub fn plan_append(s: State, nand: &[u8], nor: &[u8], slots: u64, time: u64, loa
             plan: Plan::Damage,
         };
     }
-    let code = lift::stored(load);
-    let p = s.plan(nor, code);
-    let m = s.blocked(nand, nor, slots, code, p);
-    Planned { number: m, plan: p }
-}
-
-// The lift goes into the open segment as it is and fills no page, so no section either.
-pub fn is_plain(s: State, slots: u64, p: Plan) -> bool
-    requires { ⌜ s .oldest ≤ s .current ⌝ }
-    ensures { λ r. ⌜ r ≡ isPlain s slots (meaning p) ⌝ }
-{
-    let full = append_parts::is_full(p);
-    let drops = s.drops_first(slots);
-    !((full | drops) | (s.count as usize % lift::LIFTS_PER_PAGE == append_parts::LAST_IN_PAGE))
+    let f = s.fields();
+    f.planned(nand, nor, slots, load)
 }
 
 // Room for the lift, then the lift.
@@ -61,7 +48,7 @@ pub fn carried_out(
     note: [u8; NOTE_BYTES],
     p: Plan,
 ) -> State
-    requires { ⌜ (boundsGround New s 0 (length (now nand)) (length (now nor)) slots ≡ 0) × Suits s p ⌝ }
+    requires { ⌜ (boundsGround New s 0 (length (now nand)) (length (now nor)) slots ≡ 0) × Suits (s .buckets) (s .count) p ⌝ }
     requires { ⌜ loadOk load ≡ true ⌝ }
     ensures { λ r. ⌜ world (now (nand .exit)) (now (nor .exit)) r
         ≡ Pieces.carriedOut (world (now (nand .entry)) (now (nor .entry)) s) slots time load note (meaning p) ⌝ }

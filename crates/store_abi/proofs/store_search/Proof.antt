@@ -1,16 +1,16 @@
 -- `store_abi::store_search` meets its contract: the store's search on the state that the area holds, its count in the answer's area.
 use mathlib.Core.Path.{ap, ap₂, _∙_}
 use lib.IntN.{ℤ}
+use lib.ListN.{length}
 use mir.Syntax.{w32}
-use mir.Val.{toZ, ofZ}
 use mir.ValLaws.{toZ-ofZ}
 use Rattle.search.specs.Answers.{SearchAnswer}
-use Rattle.store.specs.declared.State.{State}
 use Rattle.store.specs.World.{world}
 use Rattle.questions.specs.Queries.{searchOutcome}
+use Rattle.questions.proofs.Asked.{log-sound}
 use Rattle.state_bytes.specs.StateBytes.{stateIn}
 use Rattle.store_abi.specs.Areas.{searchCalled}
-use Rattle.store_abi.proofs.Leaves.{state-wrong, answer-wrong, both-right, search-left}
+use Rattle.store_abi.proofs.Leaves.{page-size, state-wrong, answer-wrong, both-right, search-left}
 use borrow.Author.Needs.{needs}
 use Rattle.store_abi.proofs.store_search.Statement.{statement}
 use Rattle.store_abi.proofs.store_search.Tie as tie
@@ -23,11 +23,22 @@ returns-2 : tie.Need-returns-2
 unfolding searchCalled
 returns-2 c = answer-wrong _ _ 8 _ _ (c .before .if1 .left) (c .if2 .taken)
 
-get-state-requires : tie.Need-get-state-requires
-get-state-requires c κs = search needs
+ground-requires : tie.Need-ground-requires
+ground-requires c κs = search needs
 
-search-requires : tie.Need-search-requires
-search-requires c κs = search needs
+page-of-requires : tie.Need-page-of-requires
+page-of-requires c κs = search needs
+
+log-at-requires : tie.Need-log-at-requires
+log-at-requires c κs = search needs
+
+search-from-requires : tie.Need-search-from-requires
+search-from-requires c κs =
+    let a = c .before .before .before .before .before .before .before .before .before .before .before .args in (
+      λ z. log-sound (a .nand .now) (a .nor .now) (stateIn (a .state .now)) (a .slots) _ (c .before .before .before .ground .ensures) z _
+          (c .before .log-at .ensures),
+      ap length (c .before .before .page-of .ensures) ∙ page-size (a .state .now) (c .before .before .before .before .before .if1 .left),
+    )
 
 keep-number-requires : tie.Need-keep-number-requires
 keep-number-requires c κs = search needs
@@ -41,15 +52,16 @@ same-length-2 c = search needs
 returns-3 : tie.Need-returns-3
 unfolding searchCalled
 returns-3 c =
-    let w = c .before .before .before .before .before .before .before .before .before .before .before .before .before .before .before .before in
+    let w = c .before .before .before .before .before .before .before .before .before .before .before .before .before .before .before .before .before .before in
     let a = w .args in
-    let on : State → ℤ → ℤ → SearchAnswer = λ s k1 k2. searchOutcome (world (a .nand .now) (a .nor .now) s) (a .slots) (a .t1) (a .t2) k1 k2 (a .rows .now) in
+    let on : ℤ → ℤ → SearchAnswer =
+    λ k1 k2. searchOutcome (world (a .nand .now) (a .nor .now) (stateIn (a .state .now))) (a .slots) (a .t1) (a .t2) k1 k2 (a .rows .now) in
     search-left _ _ _ _ _ _
-    (c .before .before .before .before .before .before .search .ensures
-    ∙ ap (λ s. on s (toZ w32 (ofZ w32 (a .k1))) (toZ w32 (ofZ w32 (a .k2)))) (c .before .before .before .before .before .before .before .before .get-state .ensures)
-    ∙ ap₂ (on (stateIn (a .state .now))) (toZ-ofZ w32 (a .k1) (w .fits .k1)) (toZ-ofZ w32 (a .k2) (w .fits .k2)))
+    (c .before .before .before .before .before .before .search-from .ensures (stateIn (a .state .now)) (a .slots) (c .before .before .before .before .before .before .before .before .before .before .ground .ensures)
+    (c .before .before .before .before .before .before .before .before .log-at .ensures) (c .before .before .before .before .before .before .before .before .before .page-of .ensures)
+    ∙ ap₂ on (toZ-ofZ w32 (a .k1) (w .fits .k1)) (toZ-ofZ w32 (a .k2) (w .fits .k2)))
     (c .before .before .keep-number .ensures)
-    ∙ both-right _ _ 8 _ _ (c .before .before .before .before .before .before .before .before .before .before .if1 .left) (c .before .before .before .before .before .before .before .before .before .if2 .left)
+    ∙ both-right _ _ 8 _ _ (c .before .before .before .before .before .before .before .before .before .before .before .before .if1 .left) (c .before .before .before .before .before .before .before .before .before .before .before .if2 .left)
 
 pub store-search-spec : {M : Type 1} → statement M
 store-search-spec =
@@ -57,8 +69,10 @@ store-search-spec =
     (tie.spec
     returns
     returns-2
-    get-state-requires
-    search-requires
+    ground-requires
+    page-of-requires
+    log-at-requires
+    search-from-requires
     keep-number-requires
     same-length
     same-length-2

@@ -1,47 +1,60 @@
 -- `sweep::sweep_tree` meets its contract: what is found so far and what is left to be found is what the whole sweep finds.
-use mathlib.Core.Path.{_≡_, _∙_}
-use Prim.Native.Nat.{_-_, _≤_}
+use mathlib.Core.Path.{_≡_, sym, _∙_}
+use Prim.Native.Nat.{_-_}
 use native.Mathlib.Omega.{arith}
+use lib.Count.{trailingZeros, trailing-le}
+use borrow.Author.Tests.{not-true, not-false, ltb-true, eqb-true}
+use Rattle.codec.proofs.Truth.{and-parts}
 use Rattle.sweep.specs.Inner.Swept.{sweptOf}
-use Rattle.sweep.specs.Inner.Turns.{codesOf, onward}
-use Rattle.sweep.proofs.Visits.{turn-first, turn-next, turn-last}
+use Rattle.sweep.specs.Inner.Turns.{DueBelow, onward}
+use Rattle.sweep.proofs.Mask.{due-root, lowest-rises}
+use Rattle.sweep.proofs.Visits.{turn-first, turn-bare, turn-last}
 use borrow.Author.Needs.{needs}
 use Rattle.sweep.proofs.sweep_tree.Statement.{statement}
 use Rattle.sweep.proofs.sweep_tree.Tie as tie
 
 abbrev Inv-loop : tie.InvT-loop
-Inv-loop tree lifts tail g r t₀ buckets b₀ t b =
-    (b ≤ buckets) × (onward tree (codesOf lifts tail g) g r (buckets - b) b t ≡ sweptOf tree lifts tail g r)
+Inv-loop tree lifts tail g r t₀ t =
+    DueBelow (g .buckets) (t .due) × (onward tree lifts tail g r (g .buckets) 0 t ≡ sweptOf tree lifts tail g r)
 
 abbrev μ-loop : tie.MeasureT-loop
-μ-loop tree lifts tail g r t₀ buckets b₀ t b = buckets - b
+μ-loop tree lifts tail g r t₀ t = 64 - trailingZeros 64 (t .due)
 
 empty-requires : tie.Need-empty-requires Inv-loop μ-loop
 empty-requires c κs = search needs
 
+returns : tie.Need-returns Inv-loop μ-loop
+returns c = turn-bare _ _ _ _ _ _ (c .before .before .empty .ensures) (c .if1 .taken)
+
 loop-holds : tie.Need-loop-holds Inv-loop μ-loop
-loop-holds c = (omega arith, turn-first _ _ _ _ _ _ (c .empty .ensures))
-
-visit-requires : tie.Need-visit-requires Inv-loop μ-loop
-visit-requires c κs = (c .before .before .before .before .before .before .pre, c .loop-test .taken)
-
-add-b : tie.Need-add-b Inv-loop μ-loop
-add-b c = search needs
-
-loop-less : tie.Need-loop-less Inv-loop μ-loop
-loop-less c = search needs
-
-loop-again : tie.Need-loop-again Inv-loop μ-loop
-loop-again c = (
-  omega arith,
-  turn-next _ _ _ _ _ _ _ _ (c .before .before .loop .inv .1) (c .before .loop-test .taken) _ (c .visit .ensures),
+loop-holds c = (
+  λ j e. let z = eqb-true j 0 (sym (due-root j) ∙ e) in omega (arith, z, c .if1 .left),
+  turn-first _ _ _ _ _ _ (c .before .before .empty .ensures),
 )
 
 ended-requires : tie.Need-ended-requires Inv-loop μ-loop
 ended-requires c κs = search needs
 
-returns : tie.Need-returns Inv-loop μ-loop
-returns c = c .ended .ensures ∙ turn-last _ _ _ _ _ _ _ _ (c .before .before .loop .inv .1) (c .before .loop-test .left)
+returns-2 : tie.Need-returns-2 Inv-loop μ-loop
+returns-2 c =
+    c .ended .ensures ∙ turn-last _ _ _ _ _ _ (not-true _ (c .before .if2 .taken)) ∙ c .before .before .before .before .loop .inv .1
+
+visit-requires : tie.Need-visit-requires Inv-loop μ-loop
+visit-requires c κs =
+    let at = c .before .before .before in
+    let go = and-parts (at .loop .t .good) _ (not-false _ (c .if2 .left)) in
+    (at .before .before .before .before .before .before .before .pre, (go .0, ltb-true 0 _ (go .1), at .loop .inv .0))
+
+loop-less : tie.Need-loop-less Inv-loop μ-loop
+loop-less c =
+    let at = c .before .before .before .before in
+    let go = and-parts (at .loop .t .good) _ (not-false _ (c .before .if2 .left)) in
+    let r = lowest-rises (at .loop .t .due) (ltb-true 0 _ (go .1)) (search needs) (c .visit .result .due) (search needs)
+    (c .visit .ensures .1 .1) in
+    omega (arith, r, trailing-le 64 (c .visit .result .due))
+
+loop-again : tie.Need-loop-again Inv-loop μ-loop
+loop-again c = (c .visit .ensures .1 .0, c .visit .ensures .0 ∙ c .before .before .before .before .loop .inv .1)
 
 pub sweep-tree-spec : {M : Type 1} → statement M
 sweep-tree-spec =
@@ -50,10 +63,10 @@ sweep-tree-spec =
     Inv-loop
     μ-loop
     empty-requires
+    returns
     loop-holds
-    visit-requires
-    add-b
-    loop-less
-    loop-again
     ended-requires
-    returns)
+    returns-2
+    visit-requires
+    loop-less
+    loop-again)

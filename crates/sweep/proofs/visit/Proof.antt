@@ -1,8 +1,8 @@
--- `sweep::visit` meets its contract: a bucket that is not reached, one with damage, one that is opened.
-use mathlib.Core.Path.{_≡_, refl, sym, ap, _∙_}
-use mathlib.Core.Bool.{Bool, true, _&&_}
+-- `sweep::visit` meets its contract: the lowest bucket that is due has damage, or is opened.
+use mathlib.Core.Path.{_≡_, refl, ap, _∙_}
+use mathlib.Core.Bool.{true}
 use mathlib.Core.List.{List}
-use Prim.Native.Nat.{ℕ}
+use Prim.Native.Nat.{ℕ, _-_, _^_, _<_}
 use native.Mathlib.Omega.{arith}
 use lib.ListN.{length}
 use borrow.Author.Tests.{not-true, not-false}
@@ -10,94 +10,117 @@ use Rattle.codec.proofs.Areas.{length-part}
 use Rattle.tree.specs.Place.{bucketStart}
 use Rattle.tree.specs.Reading.{bucketAt, entriesFrom}
 use Rattle.tree.specs.Inner.Seen.{seenNode}
-use Rattle.sweep.specs.Inner.Turns.{isDue, codesOf, withEntries}
+use Rattle.sweep.specs.Inner.Turns.{codesOf, timesOf, withEntries}
 use Rattle.tree.proofs.Starts.{bucket-start}
-use Rattle.sweep.proofs.Visits.{Opened, opened, turn-passes, turn-spoilt, turn-opens}
+use Rattle.sweep.proofs.Mask.{Low, lowest-due}
+use Rattle.sweep.proofs.Visits.{Opened, opened, turn-spoilt, turn-opens, turn-next, due-after}
 use borrow.Author.Needs.{needs}
 use Rattle.sweep.proofs.visit.Statement.{statement}
 use Rattle.sweep.proofs.visit.Tie as tie
 
--- the bucket's bytes, the bucket as it is seen, and that it is reached
+fits : (s : tie.Start) → s .args .t .due < 2 ^ 64
+fits s = search needs
+
+abbrev start : tie.After-without-lowest → tie.Start
+start c = c .before .before .before .before .before .before
+
+-- the bucket's number is the lowest that is due, and a bucket's of the tree
+low : (c : tie.After-without-lowest) → Low (start c .args .t .due) (c .before .lowest .result) (c .without-lowest .result)
+low c =
+    lowest-due (start c .args .t .due) (start c .pre .1 .1) (fits (start c)) _ _ (c .before .lowest .ensures .0)
+    (c .without-lowest .ensures)
+
+below : (c : tie.After-without-lowest) → c .before .lowest .result < start c .args .g .buckets
+below c = start c .pre .1 .2 _ (low c .here)
+
+-- its bytes, and the bucket as it is seen
 bytes : (c : tie.After-bucket-of) → length (c .bucket-of .result .now) ≡ 128
 bytes c =
-    let d = c .before .before .before .before .before .before .before .before in
-    ap length (c .bucket-of .ensures) ∙ length-part (d .args .tree .now) (bucketStart (d .args .b)) 128
-    (omega (arith, bucket-start (d .args .b), d .pre))
+    let b = c .before .before .lowest .result in
+    ap length (c .bucket-of .ensures) ∙ length-part (start (c .before) .args .tree .now) (bucketStart b) 128
+    (omega (arith, bucket-start b, start (c .before) .pre .0, below (c .before)))
 
-seen : (c : tie.After-node-in) → let a = c .before .before .before .before .before .before .before .before .before .args in
-    c .node-in .result ≡ seenNode (bucketAt (a .tree .now) (a .b)) (a .b) (a .g .buckets) (a .g .count)
+seen : (c : tie.After-node-in) → let d = c .before .before in let a = start d .args in
+    c .node-in .result ≡ seenNode (bucketAt (a .tree .now) (d .before .lowest .result)) (d .before .lowest .result) (a .g .buckets) (a .g .count)
 seen c =
-    let a = c .before .before .before .before .before .before .before .before .before .args in
-    c .node-in .ensures ∙ ap (λ (s : List ℕ). seenNode s (a .b) (a .g .buckets) (a .g .count)) (c .before .bucket-of .ensures)
+    let d = c .before .before in
+    let a = start d .args in
+    c .node-in .ensures
+    ∙ ap (λ (s : List ℕ). seenNode s (d .before .lowest .result) (a .g .buckets) (a .g .count)) (c .before .bucket-of .ensures)
 
-reached : (c : tie.Else1) → let a = c .before .before .before .before .before .before .args in
-    (a .t .good && isDue (a .t .due) (a .b)) ≡ true
-reached c =
-    let t = c .before .before .before .before .before .before .args .t in
-    ap (λ (q : Bool). t .good && q) (sym (c .before .before .is-due .ensures)) ∙ not-false _ (c .if1 .left)
-
-abbrev start : tie.Else2 → tie.Start
-start c = c .before .before .before .before .before .before .before .before .before .before
-
-opens : (c : tie.Else2) → Opened (c .before .before .bucket-of .result .now) (start c .args .g .count) (c .before .node-in .result)
+opens : (c : tie.Else1) → let d = c .before .before .before in
+    Opened (c .before .before .bucket-of .result .now) (start d .args .g .count) (c .before .node-in .result)
 opens c =
-    let few = start c .pre .0 .few in
-    opened _ _ _ _ _ few (c .before .node-in .ensures) (not-false _ (c .if2 .left))
+    let few = start (c .before .before .before) .pre .0 .few in
+    opened _ _ _ _ _ few (c .before .node-in .ensures) (not-false _ (c .if1 .left))
 
-is-due-requires : tie.Need-is-due-requires
-is-due-requires c κs = search needs
+lowest-requires : tie.Need-lowest-requires
+lowest-requires c κs = search needs
 
-returns : tie.Need-returns
-returns c =
-    let a = c .before .before .before .before .before .before .args in
-    turn-passes (a .tree .now) (codesOf (a .lifts .now) (a .tail .now) (a .g)) (a .g) (a .r) (a .b) (a .t)
-    (ap (λ (q : Bool). a .t .good && q) (sym (c .before .before .is-due .ensures)) ∙ not-true _ (c .if1 .taken))
+cast-b : tie.Need-cast-b
+cast-b c = search needs
+
+without-lowest-requires : tie.Need-without-lowest-requires
+without-lowest-requires c κs = search needs
 
 bucket-of-requires : tie.Need-bucket-of-requires
-bucket-of-requires c κs =
-    let d = c .before .before .before .before .before .before .before in
-    omega (arith, bucket-start (d .args .b), d .pre)
+bucket-of-requires c κs = omega (arith, bucket-start (c .before .lowest .result), start c .pre .0, below c)
 
 node-in-requires : tie.Need-node-in-requires
 node-in-requires c κs = omega (arith, bytes c)
 
-returns-2 : tie.Need-returns-2
-returns-2 c =
-    let a = c .before .before .before .before .before .before .before .before .before .before .args in
-    turn-spoilt (a .tree .now) (codesOf (a .lifts .now) (a .tail .now) (a .g)) (a .g) (a .r) (a .b) (a .t)
-    _ (seen (c .before)) (reached (c .before .before .before .before)) (not-true _ (c .if2 .taken)) _ refl
+returns : tie.Need-returns
+returns c =
+    let d = c .before .before .before in
+    let a = start d .args in
+    let l = low d in (
+      turn-next (a .tree .now) (a .lifts .now) (a .tail .now) (a .g) (a .r) _ (a .t) _ (below d) (l .least) (λ j e. l .above j e .0)
+          (turn-spoilt (a .tree .now) (a .lifts .now) (a .tail .now) (a .g) (a .r) _ (a .t) _ (seen (c .before)) (start d .pre .1 .0) (l .here)
+          (not-true _ (c .if1 .taken)) _ refl),
+      (λ j e. start d .pre .1 .2 j (l .above j e .1), rw (← d .before .lowest .ensures .0) (λ j e. l .above j e .0)),
+    )
 
 with-kids-requires : tie.Need-with-kids-requires
 with-kids-requires c κs = opens c .kids
 
 entries-requires : tie.Need-entries-requires
 entries-requires c κs =
-    let o = opens (c .before) in
-    let held = start (c .before) .pre .0 in
-    ((omega (arith, bytes (c .before .before .before)), o .used), (o .positions, held .records))
+    let e = c .before in
+    let o = opens e in
+    let held = start (e .before .before .before) .pre .0 in
+    ((omega (arith, bytes (e .before .before)), o .used), (o .positions, held .records))
 
-returns-3 : tie.Need-returns-3
-returns-3 c =
+returns-2 : tie.Need-returns-2
+returns-2 c =
     let kids = c .before .before in
     let node = kids .before .before in
-    let a = node .before .before .before .before .before .before .before .before .before .args in
+    let d = node .before .before in
+    let a = start d .args in
+    let l = low d in
+    let good = not-false _ (kids .before .if1 .left) in
     let codes = codesOf (a .lifts .now) (a .tail .now) (a .g) in
-    turn-opens (a .tree .now) codes (a .g) (a .r) (a .b) (a .t)
-    _ (seen node) (reached (node .before .before .before)) (not-false _ (kids .before .if2 .left)) _ _
-    (kids .with-kids .ensures)
-    (c .before .entries .ensures
-    ∙ ap (λ (s : List ℕ). withEntries codes (a .r) (entriesFrom s 13 0) (record { good = true; set = a .t .set }))
-    (node .before .bucket-of .ensures))
+    let times = timesOf (a .lifts .now) (a .tail .now) (a .g) in
+    let after = due-after _ (a .g .buckets) _ _ _ (node .node-in .ensures) good (a .r .k1) (a .r .k2) _ _ (kids .with-kids .ensures)
+    (λ j e. (l .above j e .0, start d .pre .1 .2 j (l .above j e .1))) in (
+      turn-next (a .tree .now) (a .lifts .now) (a .tail .now) (a .g) (a .r) _ (a .t) _ (below d) (l .least) (λ j e. after j e .0)
+          (turn-opens (a .tree .now) (a .lifts .now) (a .tail .now) (a .g) (a .r) _ (a .t) _ (seen node) (start d .pre .1 .0) (l .here)
+          good _ _ _ (l .others) (kids .with-kids .ensures)
+          (c .before .entries .ensures
+          ∙ ap (λ (s : List ℕ). withEntries codes times (a .r) (entriesFrom s 13 0) (record { good = true; set = a .t .set }))
+          (node .before .bucket-of .ensures))),
+      (λ j e. after j e .1, rw (← d .before .lowest .ensures .0) (λ j e. after j e .0)),
+    )
 
 pub visit-spec : {M : Type 1} → statement M
 visit-spec =
     tie.close
     (tie.spec
-    is-due-requires
-    returns
+    lowest-requires
+    cast-b
+    without-lowest-requires
     bucket-of-requires
     node-in-requires
-    returns-2
+    returns
     with-kids-requires
     entries-requires
-    returns-3)
+    returns-2)

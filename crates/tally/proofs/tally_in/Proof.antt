@@ -1,6 +1,5 @@
 -- `tally::tally_in` meets its contract: damage, or the counts of what is found.
-use mathlib.Core.Path.{_≡_, ap, _∙_}
-use lib.ListN.{length}
+use mathlib.Core.Path.{ap, _∙_}
 use Rattle.skiplist.specs.Skip.{serialsFrom}
 use Rattle.tally.specs.declared.Tally.{Tally}
 use Rattle.tally.specs.Answers.{TallyAnswer, tallyAnswer}
@@ -16,37 +15,31 @@ answer t = record { number = t .number; counts = t .counts }
 start-of-requires : tie.Need-start-of-requires
 start-of-requires c κs = search needs
 
-slice-aggregate-tally-open : tie.Need-slice-aggregate-tally-open
-slice-aggregate-tally-open c = search needs
-
 tally-open-requires : tie.Need-tally-open-requires
-tally-open-requires c κs =
-    let l : length (c .before .before .before .before .args .t3) ≡ 512 = search needs in
-    (c .before .before .before .before .pre .0, l)
+tally-open-requires c κs = search needs
 
 no-tally-requires : tie.Need-no-tally-requires
 no-tally-requires c κs = search needs
 
 returns : tie.Need-returns
 returns c =
-    let a = c .before .before .before .before .before .before .before .before .before .args in
-    ap answer (c .no-tally .ensures) ∙ tally-none (a .nand .now) (a .nor .now) (a .t3) (a .g) (serialsFrom (a .g .oldest)) (a .q)
-    (c .before .before .before .before .before .before .start-of .result) _
-    (c .before .before .before .before .tally-open .ensures) (c .before .if1 .taken)
-    ∙ ap tallyAnswer (found-is (a .nand .now) (a .nor .now) (a .t3) (a .g) (serialsFrom (a .g .oldest)) (a .q) _
-    (c .before .before .before .before .before .before .start-of .ensures))
+    let o = c .before .before .before .before in
+    let a = o .before .before .before .before .before .args in
+    ap answer (c .no-tally .ensures) ∙ tally-none (a .nand .now) (a .nor .now) (a .page .now) (a .g) (serialsFrom (a .g .oldest)) (a .q)
+    (o .before .start-of .result) _ (o .tally-open .ensures) (c .before .if1 .taken)
+    ∙ ap tallyAnswer (found-is (a .nand .now) (a .nor .now) (a .page .now) (a .g) (serialsFrom (a .g .oldest)) (a .q) _
+    (o .before .start-of .ensures))
 
 tally-closed-requires : tie.Need-tally-closed-requires
 tally-closed-requires c κs =
-    let a = c .before .before .before .before .before .before .before .before .before .args in
-    let p = c .before .before .before .before .before .before .before .before .before .pre in (
-      (p .0 .nand-size, p .1),
+    let o = c .before .before .before .before in
+    let a = o .before .before .before .before .before .args in
+    let p = o .before .before .before .before .before .pre in (
+      (p .0 .nand-size, p .1 .1),
       (
-        begun-at (a .nand .now) (a .g) (serialsFrom (a .g .oldest)) (a .q) _ (p .0 .heads-in)
-            (c .before .before .before .before .before .before .start-of .ensures) .sound,
-        first-few (a .nand .now) (a .nor .now) (a .t3) (a .g) (serialsFrom (a .g .oldest)) (a .q)
-            (c .before .before .before .before .before .before .start-of .result) _
-            (c .before .before .before .before .tally-open .ensures),
+        begun-at (a .nand .now) (a .g) (serialsFrom (a .g .oldest)) (a .q) _ (p .0 .heads-in) (o .before .start-of .ensures) .sound,
+        first-few (a .nand .now) (a .nor .now) (a .page .now) (a .g) (serialsFrom (a .g .oldest)) (a .q)
+            (o .before .start-of .result) _ (o .tally-open .ensures),
       ),
     )
 
@@ -55,35 +48,34 @@ no-tally-requires-2 c κs = search needs
 
 returns-2 : tie.Need-returns-2
 returns-2 c =
-    let a = c .before .before .before .before .before .before .before .before .before .before .before .before .args in
-    let p = c .before .before .before .before .before .before .before .before .before .before .before .before .pre in
+    let o = c .before .before .before .before .before .before .before in
+    let a = o .before .before .before .before .before .args in
+    let p = o .before .before .before .before .before .pre in
     ap answer (c .no-tally2 .ensures)
-    ∙ tally-spoilt (a .nand .now) (a .nor .now) (a .t3) (a .g) (serialsFrom (a .g .oldest)) (a .q) _ _
-    (c .before .before .before .before .before .before .before .tally-open .ensures) (p .0 .nand-size)
-    (begun-at (a .nand .now) (a .g) (serialsFrom (a .g .oldest)) (a .q) _ (p .0 .heads-in)
-    (c .before .before .before .before .before .before .before .before .before .start-of .ensures))
+    ∙ tally-spoilt (a .nand .now) (a .nor .now) (a .page .now) (a .g) (serialsFrom (a .g .oldest)) (a .q) _ _ (o .tally-open .ensures)
+    (p .0 .nand-size)
+    (begun-at (a .nand .now) (a .g) (serialsFrom (a .g .oldest)) (a .q) _ (p .0 .heads-in) (o .before .start-of .ensures))
     (c .before .before .before .before .if1 .left) _ (c .before .before .tally-closed .ensures) (c .before .if2 .taken)
-    ∙ ap tallyAnswer (found-is (a .nand .now) (a .nor .now) (a .t3) (a .g) (serialsFrom (a .g .oldest)) (a .q) _
-    (c .before .before .before .before .before .before .before .before .before .start-of .ensures))
+    ∙ ap tallyAnswer (found-is (a .nand .now) (a .nor .now) (a .page .now) (a .g) (serialsFrom (a .g .oldest)) (a .q) _
+    (o .before .start-of .ensures))
 
 returns-3 : tie.Need-returns-3
 returns-3 c =
-    let a = c .before .before .before .before .before .before .before .before .before .before .before .before .args in
-    let p = c .before .before .before .before .before .before .before .before .before .before .before .before .pre in
-    tally-counts (a .nand .now) (a .nor .now) (a .t3) (a .g) (serialsFrom (a .g .oldest)) (a .q) _ _
-    (c .before .before .before .before .before .before .before .tally-open .ensures) (p .0 .nand-size)
-    (begun-at (a .nand .now) (a .g) (serialsFrom (a .g .oldest)) (a .q) _ (p .0 .heads-in)
-    (c .before .before .before .before .before .before .before .before .before .start-of .ensures))
+    let o = c .before .before .before .before .before .before .before in
+    let a = o .before .before .before .before .before .args in
+    let p = o .before .before .before .before .before .pre in
+    tally-counts (a .nand .now) (a .nor .now) (a .page .now) (a .g) (serialsFrom (a .g .oldest)) (a .q) _ _ (o .tally-open .ensures)
+    (p .0 .nand-size)
+    (begun-at (a .nand .now) (a .g) (serialsFrom (a .g .oldest)) (a .q) _ (p .0 .heads-in) (o .before .start-of .ensures))
     (c .before .before .before .before .if1 .left) _ (c .before .before .tally-closed .ensures) (c .before .if2 .left)
-    ∙ ap tallyAnswer (found-is (a .nand .now) (a .nor .now) (a .t3) (a .g) (serialsFrom (a .g .oldest)) (a .q) _
-    (c .before .before .before .before .before .before .before .before .before .start-of .ensures))
+    ∙ ap tallyAnswer (found-is (a .nand .now) (a .nor .now) (a .page .now) (a .g) (serialsFrom (a .g .oldest)) (a .q) _
+    (o .before .start-of .ensures))
 
 pub tally-in-spec : {M : Type 1} → statement M
 tally-in-spec =
     tie.close
     (tie.spec
     start-of-requires
-    slice-aggregate-tally-open
     tally-open-requires
     no-tally-requires
     returns

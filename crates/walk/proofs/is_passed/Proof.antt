@@ -8,25 +8,50 @@ use native.Mathlib.Omega.{arith}
 use Rattle.walk.proofs.is_passed.Statement.{statement}
 use Rattle.walk.proofs.is_passed.Tie as tie
 
+high-in-requires : tie.Need-high-in-requires
+high-in-requires c κs = search needs
+
+low-in-requires : tie.Need-low-in-requires
+low-in-requires c κs = search needs
+
 returns : tie.Need-returns
-returns c = passed-span _ _ _ _ (c .if1 .taken)
+returns c =
+    λ slots before. passed-span _ _ _ _ slots before _ _ (c .before .before .before .before .high-in .ensures) (c .before .before .low-in .ensures) (c .if1 .taken)
 
 returns-2 : tie.Need-returns-2
-returns-2 c = passed-not _ _ _ _ (c .before .before .if1 .left) (c .if2 .taken)
+returns-2 c =
+    λ slots before. passed-not _ _ _ _ slots before _ _ (c .before .before .before .before .before .before .high-in .ensures) (c .before .before .before .before .low-in .ensures) (c .before .before .if1 .left)
+    (c .if2 .taken)
 
 pages-of-requires : tie.Need-pages-of-requires
 pages-of-requires c κs = search needs
 
+count-in-requires : tie.Need-count-in-requires
+count-in-requires c κs = search needs
+
 may-hold-requires : tie.Need-may-hold-requires
 may-hold-requires c κs =
-    let l : length (c .pages-of .result .now) ≡ 1024 = ap length (c .pages-of .ensures) ∙ length-part _ _ 1024 (omega arith) in
-    omega arith
+    let l : length (c .before .pages-of .result .now) ≡ 1024 =
+    ap length (c .before .pages-of .ensures) ∙ length-part _ _ 1024 (omega (arith, c .before .before .before .before .before .before .before .before .before .before .before .pre)) in
+    let p = c .before .before .before .before .before .before .before .before .before .before .before .pre in
+    (omega (arith, l), omega (arith, c .count-in .ensures, p .1 .0), omega (arith, c .count-in .ensures, p .1 .1), p .0 .2)
 
 returns-3 : tie.Need-returns-3
 returns-3 c =
-    passed-bloom _ _ _ _ (c .before .before .before .before .if1 .left) (c .before .before .if2 .left) _
-    (c .before .pages-of .ensures) _ (c .may-hold .ensures)
+    λ slots before.
+    passed-bloom _ _ _ _ slots before _ _ (c .before .before .before .before .before .before .before .before .before .high-in .ensures) (c .before .before .before .before .before .before .before .low-in .ensures)
+    (c .before .before .before .before .before .if1 .left) (c .before .before .before .if2 .left) _
+    (c .before .before .pages-of .ensures) _ (c .before .count-in .ensures) _ (c .may-hold .ensures)
 
 pub is-passed-spec : {M : Type 1} → statement M
 is-passed-spec =
-    tie.close (tie.spec returns returns-2 pages-of-requires may-hold-requires returns-3)
+    tie.close
+    (tie.spec
+    high-in-requires
+    low-in-requires
+    returns
+    returns-2
+    pages-of-requires
+    count-in-requires
+    may-hold-requires
+    returns-3)

@@ -1,49 +1,33 @@
--- `walk::seek` meets its contract: the hops that are left lead from here to where they lead from the heads.
-use mathlib.Core.Path.{_≡_, refl, sym, _∙_}
-use Prim.Native.Nat.{suc, _-_}
-use Rattle.skiplist.specs.Skip.{serialsFrom}
-use Rattle.walk.specs.Seek.{hops, skipWalk}
-use Rattle.walk.proofs.Hops.{hopsLeft, Walked, hop-walked, left-level, hop-falls, walk-step, walk-end, walk-starts}
+-- `walk::seek` meets its contract: four levels, one after the other.
+use mathlib.Core.Path.{_∙_}
+use Rattle.walk.proofs.Places.{heads-sound, levels-done}
 use native.Mathlib.Omega.{arith}
 use Rattle.walk.proofs.seek.Statement.{statement}
 use Rattle.walk.proofs.seek.Tie as tie
 
-abbrev Inv-loop : tie.InvT-loop
-Inv-loop nand g t2 w₀ w =
-    let live = serialsFrom (g .oldest) in
-    Walked (g .slots) (g .current) w × (hops (hopsLeft w) nand (g .slots) live t2 w ≡ skipWalk nand g live t2)
+along-requires : tie.Need-along-requires
+along-requires c κs =
+    let s = c .before .before in
+    ((s .pre .0, omega arith), heads-sound _ _ _ _ (s .pre .1))
 
-abbrev μ-loop : tie.MeasureT-loop
-μ-loop nand g t2 w₀ w = hopsLeft w
+along-requires-2 : tie.Need-along-requires-2
+along-requires-2 c κs = ((c .before .before .before .pre .0, omega arith), c .along .ensures .1)
 
-loop-holds : tie.Need-loop-holds Inv-loop μ-loop
-unfolding skipWalk
-loop-holds c = (walk-starts _ _ _ (c .before .before .pre .1), refl)
+along-requires-3 : tie.Need-along-requires-3
+along-requires-3 c κs = ((c .before .before .before .before .pre .0, omega arith), c .along2 .ensures .1)
 
-hop-requires : tie.Need-hop-requires Inv-loop μ-loop
-hop-requires c κs =
-    let v = c .before .before .loop .inv .0 in
-    ((c .before .before .before .before .before .pre .0, c .if1 .taken, v .most), v .pointed (v .stays (c .if1 .taken)))
+along-requires-4 : tie.Need-along-requires-4
+along-requires-4 c κs = ((c .before .before .before .before .before .pre .0, omega arith), c .along3 .ensures .1)
 
-loop-less : tie.Need-loop-less Inv-loop μ-loop
-loop-less c =
-    let w = c .before .before .before .loop .w in
-    let e : w .level ≡ suc (w .level - 1) = omega (arith, c .before .if1 .taken) in
-    rw (c .hop .ensures, left-level w (w .level - 1) e) (hop-falls _ _ _ _ w (w .level - 1))
-
-loop-again : tie.Need-loop-again Inv-loop μ-loop
-loop-again c =
-    let w = c .before .before .before .loop .w in
-    let e : w .level ≡ suc (w .level - 1) = omega (arith, c .before .if1 .taken) in
-    rw (c .hop .ensures) (
-      hop-walked _ _ _ _ _ w (w .level - 1) e (c .before .before .before .loop .inv .0),
-      walk-step _ _ _ _ w
-          (w .level - 1) e ∙ c .before .before .before .loop .inv .1,
+returns : tie.Need-returns
+returns c =
+    let a = c .before .before .before .before .before .before .args in (
+      levels-done (a .nand .now) (a .g) (a .t2) (c .along4 .result)
+          (c .along4 .ensures .0 ∙ c .before .along3 .ensures .0 ∙ c .before .before .along2 .ensures .0
+          ∙ c .before .before .before .along .ensures .0),
+      c .along4 .ensures .1 .inside,
     )
-
-returns : tie.Need-returns Inv-loop μ-loop
-returns c = sym (walk-end _ _ _ _ _ (omega (arith, c .if1 .left))) ∙ c .before .before .loop .inv .1
 
 pub seek-spec : {M : Type 1} → statement M
 seek-spec =
-    tie.close (tie.spec Inv-loop μ-loop loop-holds hop-requires loop-less loop-again returns)
+    tie.close (tie.spec along-requires along-requires-2 along-requires-3 along-requires-4 returns)

@@ -1,14 +1,18 @@
 -- `plan_append`: grounds 1 to 8, then the plan, then grounds 10 and 11.
-use mathlib.Core.Path.{_≡_, sym, ap, _∙_}
+use mathlib.Core.Path.{_≡_, refl, sym, ap, subst, _∙_}
 use lib.ListN.{length}
 use mir.Syntax.{w32}
 use mir.ValLaws.{toZ-ofZ}
-use Rattle.lift.specs.Limits.{loadOk, stored}
+use Rattle.lift.specs.Limits.{loadOk}
 use Rattle.grow.specs.Inner.Meaning.{meaning}
 use Rattle.bounds.proofs.Within.{Liftable, lift-within}
-use Rattle.store.specs.Inner.Pieces.{entryGround}
-use Rattle.store.proofs.Grounds.{standing}
-use Rattle.store.proofs.Appended.{entry-of, Entered, entered, number-early, number-later}
+use Rattle.store.specs.declared.fields.Fields.{Fields}
+use Rattle.store.specs.World.{world}
+use Rattle.store.specs.Calls.{planOf}
+use Rattle.store.specs.Inner.Fields.{fieldsOf, Sized}
+use Rattle.store.specs.Inner.Pieces.{Suits, entryGround, laterGround}
+use Rattle.store.proofs.Grounds.{standing, sized}
+use Rattle.store.proofs.Appended.{entry-of, Entered, entered, number-early, number-later, planned-is}
 use native.Mathlib.Omega.{arith}
 use borrow.Author.Needs.{needs}
 use Rattle.store.proofs.append.pieces.plan_append.Statement.{statement}
@@ -45,49 +49,40 @@ lifts : (c : tie.Else1) → let a =
     c .before .before .before .before .args in Liftable (a .time) (a .load) (a .s .next) (a .s .current)
 lifts c = lift-within _ _ _ _ (enters c .lift)
 
-coded : (c : tie.After-stored) → c .stored .result ≡ stored (c .before .before .before .before .before .args .load)
-coded c =
-    let s = c .before .before .before .before .before in
-    c .stored .ensures ∙ ap stored (toZ-ofZ w32 (s .args .load) (s .fits .load))
+-- the fields are the state's
+same : (c : tie.After-fields) → fieldsOf (c .before .before .before .before .before .args .s) ≡ c .fields .result
+same c = sym (c .fields .ensures)
 
-stored-requires : tie.Need-stored-requires
-stored-requires c κs =
-    let s = c .before .before .before .before in
-    ap loadOk (toZ-ofZ w32 (s .args .load) (s .fits .load)) ∙ lifts c .load-ok
+fields-requires : tie.Need-fields-requires
+fields-requires c κs = search needs
 
-plan-requires : tie.Need-plan-requires
-plan-requires c κs =
-    let st = standing _ _ _ _ (enters (c .before) .bounds) in
-    (st .chips .nor-size, st .counts .few, st .counts .lifts, st .loads)
-
-blocked-requires : tie.Need-blocked-requires
-blocked-requires c κs =
-    (enters (c .before .before) .bounds, c .plan .ensures .1)
+planned-requires : tie.Need-planned-requires
+planned-requires c κs =
+    let d = c .before .before .before .before .before in
+    let a = d .args in (
+      subst (Sized (a .nand .now) (a .nor .now) (a .slots)) (same c)
+          (sized (a .nand .now) (a .nor .now) (a .s) (a .slots) (standing _ _ _ _ (enters (c .before) .bounds))),
+      ap loadOk (toZ-ofZ w32 (a .load) (d .fits .load)) ∙ lifts (c .before) .load-ok,
+    )
 
 returns-2 : tie.Need-returns-2
 returns-2 c =
-    let p = c .before .plan in
-    let k = coded (c .before .before) in
-    let n = c .before .before .before in
-    let a = n .before .before .before .before .args in
-    let is = p .ensures .0 (a .load) k in (
+    let n = c .before .before in
+    let d = n .before .before .before .before in
+    let a = d .args in
+    let q = c .planned .result .plan in
+    let load = toZ-ofZ w32 (a .load) (d .fits .load) in
+    let w = world (a .nand .now) (a .nor .now) (a .s) in
+    let is = c .planned .ensures .1 (a .s) (same (c .before)) in
+    let plan = is .0 ∙ ap (planOf w) load in
+    let suits = subst (λ (f : Fields). Suits (f .buckets) (f .count) q) (sym (same (c .before))) (c .planned .ensures .0) in (
       number-later (a .nand .now) (a .nor .now) (a .s) (a .slots) (a .time) (a .load) _ (judged (n .before)) (zero n)
-          (meaning (p .result)) is _ (c .blocked .ensures (a .load) k),
-      λ e. record {
-        bounds = enters n .bounds;
-        suits = p .ensures .1;
-        load-ok = lifts n .load-ok;
-        is = is;
-      },
+          (meaning q) plan _ (is .1 ∙ ap (λ z. laterGround w (a .slots) z (meaning q)) load),
+      λ e. planned-is (a .nand .now) (a .nor .now) (a .s) (a .slots) (a .time) (a .load) _ (judged (n .before)) (zero n) (meaning q) plan _
+          (is .1 ∙ ap (λ z. laterGround w (a .slots) z (meaning q)) load) q refl suits,
     )
 
 pub plan-append-spec : {M : Type 1} → statement M
 plan-append-spec =
     tie.close
-    (tie.spec
-    entry-ground-requires
-    returns
-    stored-requires
-    plan-requires
-    blocked-requires
-    returns-2)
+    (tie.spec entry-ground-requires returns fields-requires planned-requires returns-2)
