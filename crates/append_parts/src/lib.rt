@@ -3,14 +3,16 @@ use bloom::SECTION_BYTES;
 use flash::PAGE_BYTES;
 use flash::Page;
 use grow::Plan;
+use lift::NOTE_BYTES;
 ghost use mathlib.Core.Path.{_≡_};
 ghost use mathlib.Core.Bool.{cond, not, _&&_, _||_};
 ghost use Prim.Native.Nat.{_+_, _-_, _*_, _/_, _%_, _≤_};
 ghost use lib.Dec.{eqb, leb};
 ghost use lib.ListN.{length};
+ghost use Rattle.lift.specs.Record.{recordBytes, recordWidth};
 ghost use Rattle.lift.specs.Rows.{liftsMost};
 ghost use Rattle.codec.specs.Area.{part, splice, allOnes};
-ghost use Rattle.flash.specs.Chip.{erasedPage, pageErased, programmed, norWidth, slotWidth, treeWidth};
+ghost use Rattle.flash.specs.Chip.{erasedPage, pageErased, programmed, norWidth, pageWidth, slotWidth, treeWidth};
 ghost use Rattle.bloom.specs.Bloom.{emptySection};
 ghost use Rattle.tree.specs.Plan.{isDamaged, isNoRoom};
 ghost use Rattle.grow.specs.Inner.Meaning.{meaning};
@@ -24,6 +26,24 @@ pub fn blank_page() -> [u8; PAGE_BYTES]
     ensures { λ r. ⌜ r ≡ erasedPage ⌝ }
 {
     [255u8; PAGE_BYTES]
+}
+
+// The page with a record from `at` on.
+pub fn with_record(
+    page: [u8; PAGE_BYTES],
+    at: usize,
+    time: u64,
+    code: u32,
+    note: [u8; NOTE_BYTES],
+) -> [u8; PAGE_BYTES]
+    requires { ⌜ at + recordWidth ≤ pageWidth ⌝ }
+    ensures { λ r. ⌜ r ≡ splice page at (recordBytes time code note) ⌝ }
+{
+    let mut p = page;
+    codec::put_u64(&mut p, at, time);
+    codec::put_u32(&mut p, at + lift::CODE_AT, code);
+    codec::copy(&mut p, at + lift::NOTE_AT, &note);
+    p
 }
 
 pub fn is_damaged_plan(p: Plan) -> bool

@@ -66,8 +66,8 @@ fn put_record(b: &mut [u8], at: usize, time: u64, code: u32, note: [u8; NOTE_BYT
     ensures { λ _. ⌜ now (b .exit) ≡ splice (now (b .entry)) at (recordBytes time code note) ⌝ }
 {
     codec::put_u64(b, at, time);
-    codec::put_u32(b, at + 8, code);
-    codec::copy(b, at + 12, &note);
+    codec::put_u32(b, at + lift::CODE_AT, code);
+    codec::copy(b, at + lift::NOTE_AT, &note);
 }
 
 // A full page goes to NAND, and the page buffer is blank.

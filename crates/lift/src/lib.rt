@@ -1,13 +1,11 @@
 // A lift (document 01, "Chips and slots"): its limits, its load as stored, its record of 32 bytes.
-use flash::PAGE_BYTES;
 ghost use mathlib.Core.Path.{_≡_};
 ghost use mathlib.Core.Bool.{true};
 ghost use Prim.Native.Nat.{_+_, _-_, _*_, _^_, _≤_, _<_};
 ghost use lib.ListN.{length};
-ghost use Rattle.flash.specs.Chip.{pageWidth};
 ghost use Rattle.codec.specs.Area.{part, splice};
 ghost use Rattle.lift.specs.Limits as Limits;
-ghost use Rattle.lift.specs.Record.{recordBytes, timeAt, codeAt, recordWidth};
+ghost use Rattle.lift.specs.Record.{timeAt, codeAt, recordWidth};
 ghost use Rattle.lift.specs.Rows.{timeIn, codeIn, recordIn};
 
 // "a time (ms, 0 to 999,999,999,999,999)"
@@ -32,9 +30,9 @@ pub const LIFTS_MOST: u16 = 320;
 
 pub const LOADS_KEPT: usize = 13;
 
-const CODE_AT: usize = 8;
+pub const CODE_AT: usize = 8;
 
-const NOTE_AT: usize = 12;
+pub const NOTE_AT: usize = 12;
 
 pub fn time_ok(time: u64) -> bool
     ensures { λ r. ⌜ r ≡ Limits.timeOk time ⌝ }
@@ -68,24 +66,6 @@ pub fn load_of(code: u32) -> i32
     ensures { λ r. ⌜ r ≡ Limits.loadOf code ⌝ }
 {
     (code as i32) - STORED_OFFSET
-}
-
-// The page with a record from `at` on.
-pub fn with_record(
-    page: [u8; PAGE_BYTES],
-    at: usize,
-    time: u64,
-    code: u32,
-    note: [u8; NOTE_BYTES],
-) -> [u8; PAGE_BYTES]
-    requires { ⌜ at + recordWidth ≤ pageWidth ⌝ }
-    ensures { λ r. ⌜ r ≡ splice page at (recordBytes time code note) ⌝ }
-{
-    let mut p = page;
-    codec::put_u64(&mut p, at, time);
-    codec::put_u32(&mut p, at + CODE_AT, code);
-    codec::copy(&mut p, at + NOTE_AT, &note);
-    p
 }
 
 // The time of the record in an area from `at` on, and its load as stored.

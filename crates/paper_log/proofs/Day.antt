@@ -68,6 +68,12 @@ unfolding numberOf after rowsOf stepped answered answers logAfter begun closeLog
     needsBucket36 treeOf insertMore insert descend allocate Tree.put
 found-at-night = (refl, refl, refl)
 
+-- the lifts of one serial "by .. arrival"
+pub found-at-noon : found (logAfter (begun New 2) morning) 0 9000 (negsuc 49999) (pos 100000) ≡ lift 1000 (pos 250) ∷ lift 2000 (pos 751) ∷ []
+unfolding numberOf after rowsOf stepped answered answers logAfter begun closeLog dropLog isFull roomLog shedLog putLog appendLog among joined found stored
+    needsBucket36 treeOf insertMore insert descend allocate Tree.put
+found-at-noon = refl
+
 -- form 0 refuses the second arm
 pub second-arm : (f : Form) → map (λ a. a .number) (answers (begun f 2) (put 1000 (pos 250) ∷ put 1000 (pos 300) ∷ [])) ≡ 0 ∷ 7 * step f ∷ []
 unfolding numberOf after rowsOf stepped answered answers begun closeLog dropLog isFull roomLog shedLog putLog appendLog among joined found stored

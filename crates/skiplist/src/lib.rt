@@ -90,7 +90,7 @@ pub fn node_of(heads: [Pointer; LEVELS], level: usize) -> [Pointer; LEVELS]
 }
 
 // The first `level` heads point to the new segment.
-pub fn heads_after(heads: [Pointer; LEVELS], level: usize, p: Pointer) -> [Pointer; LEVELS]
+fn heads_after(heads: [Pointer; LEVELS], level: usize, p: Pointer) -> [Pointer; LEVELS]
     requires { ⌜ level ≤ levels ⌝ }
     ensures { λ r. ⌜ r ≡ headsAfter heads level p ⌝ }
 {
@@ -101,6 +101,20 @@ pub fn heads_after(heads: [Pointer; LEVELS], level: usize, p: Pointer) -> [Point
         i += 1;
     }
     n
+}
+
+// The heads when the segment of `serial` closes: those up to its level point to it.
+pub fn heads_closing(
+    heads: [Pointer; LEVELS],
+    slot: u16,
+    serial: u32,
+    start: u64,
+) -> [Pointer; LEVELS]
+    ensures { λ r. ⌜ r ≡ headsAfter heads (levelOf serial) (pointer slot serial start) ⌝ }
+{
+    let level = level_of(serial);
+    let p = Pointer::new(slot, serial, start);
+    heads_after(heads, level, p)
 }
 
 pub fn pointer_at(s: &[u8], at: usize, form: Form) -> Pointer

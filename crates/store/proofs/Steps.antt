@@ -56,10 +56,9 @@ closing-made s low high p q = let e : s .next - 0 ≡ s .next = omega arith in r
 
 -- ---- a close
 
-pub moved-made : (s : State) (slot level : ℕ) (p : Pointer) (heads : List Pointer) (loads : List ℤ) (page bloom : List ℕ)
-    → level ≡ levelOf (s .current)
-    → p ≡ pointer slot (s .current) (s .start) → heads ≡ headsAfter (s .heads) level p → loads ≡ noLoads → page ≡ erasedPage
-    → bloom ≡ emptySection
+pub moved-made : (s : State) (slot : ℕ) (heads : List Pointer) (loads : List ℤ) (page bloom : List ℕ)
+    → heads ≡ headsAfter (s .heads) (levelOf (s .current)) (pointer slot (s .current) (s .start)) → loads ≡ noLoads
+    → page ≡ erasedPage → bloom ≡ emptySection
     → _≡_ {A = State} (record {
       oldest = s .oldest;
       current = s .current + 1;
@@ -75,7 +74,7 @@ pub moved-made : (s : State) (slot level : ℕ) (p : Pointer) (heads : List Poin
       high = pos 0;
     }) (movedOn New s slot)
 unfolding movedOn
-moved-made s slot level p heads loads page bloom e f g h i j = rw (g, h, i, j, e, f)
+moved-made s slot heads loads page bloom e f g h = rw (e, f, g, h)
 
 module _ (nand nor nand' nor' : List ℕ) (s s' : State) (slots slot : ℕ) (c : Closing) where
   -- NAND programmed, NOR erased, the next serial open

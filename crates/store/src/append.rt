@@ -96,7 +96,7 @@ impl State {
         let n = self.count as usize;
         let slot = flash::slot_of(self.current, slots);
         let old = self.page;
-        let full = lift::with_record(
+        let full = append_parts::with_record(
             old,
             n % lift::LIFTS_PER_PAGE * lift::RECORD_BYTES,
             time,

@@ -158,9 +158,7 @@ impl State {
         ensures { λ r. ⌜ r ≡ World.movedOn New self slot ⌝ }
     {
         let old = self.heads;
-        let level = skiplist::level_of(self.current);
-        let p = Pointer::new(slot as u16, self.current, self.start);
-        let heads = skiplist::heads_after(old, level, p);
+        let heads = skiplist::heads_closing(old, slot as u16, self.current, self.start);
         let loads = bounds::no_loads();
         let page = append_parts::blank_page();
         let section = bloom::empty_section();

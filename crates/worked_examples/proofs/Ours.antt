@@ -28,7 +28,6 @@ use Rattle.header.specs.Header.{countBytes, spanBytes, headerPage}
 use Rattle.header.specs.Header.{countsGood, spanGood, pointerGood, pointersGood, headerGood, headerIn}
 use Rattle.segment.specs.Pages.{pageDue, pagesErased, treePage}
 use Rattle.walk.specs.Seek.{hopAt, hops, skipWalk}
-use Rattle.search.specs.Answers.{rowBytes, searchAnswer}
 use Rattle.loads.specs.Signed.{unsigned, sideBySide, loadBytes}
 use Rattle.state_bytes.specs.StateBytes.{bytesIn, stateBytes, oldStateBytes}
 use Rattle.store.specs.Bounds.{headsOk, withinBounds}
@@ -73,7 +72,7 @@ unfolding places bucketStart stored slotOf fragmentLength levelOf trailingZeros
 places-right = refl
 
 layouts-right : Agrees layouts
-unfolding layouts bucketStart allShown laidEntries searchAnswer rowBytes
+unfolding layouts bucketStart allShown laidEntries
     recordBytes timeIn codeIn recordIn bytes stored part splice le repeated TreeBytes.places entryBytes bucketBytes treeBytes nodeIn entriesFrom treePage
 layouts-right = refl
 
@@ -104,7 +103,7 @@ unfolding loadBounds withinBounds serialsOk countsOk timesOk spanOk loadsOk head
 loads-right = refl
 
 grounds-right : Agrees grounds
-unfolding grounds formatGround liftGround queryGround searchAnswer
+unfolding grounds formatGround liftGround queryGround
 grounds-right = refl
 
 segments-right : Agrees segments
@@ -115,7 +114,7 @@ segments-right = refl
 
 refusals-right : Agrees refusals
 unfolding refusals bucketStart laidEntries
-    closeGround dropGround appendGround liftGround searchAnswer withinBounds serialsOk countsOk timesOk spanOk loadsOk headsOk
+    closeGround dropGround appendGround liftGround withinBounds serialsOk countsOk timesOk spanOk loadsOk headsOk
     slotOf pagesErased pageDue allOnes part splice le planOn planFrom nodeIn entriesFrom kidsOf nodeGood positionsGood
     roomWorld appendDamage appendUnerased norClear allClear writesOf stored
 refusals-right = refl

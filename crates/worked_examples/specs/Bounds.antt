@@ -9,12 +9,10 @@ use lib.ListN.{replicate}
 use Rattle.form.specs.declared.Form.the-variants.{Old, New}
 use Rattle.bounds.specs.Grounds.{formatGround, liftGround, queryGround}
 use Rattle.segment.specs.Pages.{pageDue}
-use Rattle.search.specs.Answers.{searchAnswer}
 use Rattle.tree.specs.Rules.{insert, bucketsOf, root}
 use Rattle.store.specs.Bounds.{withinBounds}
 use Rattle.store.specs.World.{fillsPage, fillsSection}
 use Rattle.worked_examples.specs.Figures.{minus, good, bad}
-use Rattle.worked_examples.specs.Laid.{laidRecord}
 use Rattle.worked_examples.specs.States.{pointing, noHeads, zeros, stateOf}
 
 -- ---- ground 3
@@ -177,11 +175,6 @@ grounds =
     ∷ (queryGround 9 9 (minus 3) (minus 3), 0)
     ∷ (queryGround 9 8 (minus 3) (minus 3), 6)
     ∷ (queryGround 9 9 (minus 2) (minus 3), 6)
-    -- "The lifts found outnumber the whole 32-byte rows of the result area": 63 bytes have room for one, 64 for two; none always fit
-    ∷ (searchAnswer (replicate 63 9) (some (replicate 2 laidRecord)) .number, 12)
-    ∷ (searchAnswer (replicate 64 9) (some (replicate 2 laidRecord)) .number, 0)
-    ∷ (searchAnswer (replicate 31 9) (some (replicate 1 laidRecord)) .number, 12)
-    ∷ (searchAnswer [] (some []) .number, 0)
     ∷ []
 
 -- ---- limits of a segment

@@ -19,7 +19,6 @@ use Rattle.skiplist.specs.PointerBytes.{pointerBytes, pointersBytes, pointersAt
 use Rattle.header.specs.declared.Header.{Header}
 use Rattle.header.specs.Header.{headerPage, headerIn}
 use Rattle.segment.specs.Pages.{treePage}
-use Rattle.search.specs.Answers.{searchAnswer}
 use Rattle.tree.specs.Rules.{Entry, Kids, whole, split, Bucket}
 use Rattle.tree.specs.Place.{bucketPage, bucketOffset, bucketStart}
 use Rattle.tree.specs.Bytes.{bucketBytes, treeBytes}
@@ -131,8 +130,6 @@ layouts =
     ∷ (recordIn inPages inBuffer 2 2 ++ recordIn inPages inBuffer 2 3, numbered 3 ++ numbered 4)
     -- "16 a page in order of arrival": the nineteenth lift at byte 2·32 of its page
     ∷ (buffered, replicate 64 255 ++ (laidRecord ++ replicate 416 255))
-    -- rows of a search from the area's start, "the rest of the result area keeps its bytes"
-    ∷ (searchAnswer (replicate 65 9) (some (laidRecord ∷ [])) .area, laidRecord ++ replicate 33 9)
     -- a bucket split and not yet split, written
     ∷ (bucketBytes (example (split 49998 none (some 4))), laidBucket)
     ∷ (bucketBytes (example whole), laidWhole)

@@ -1,11 +1,9 @@
 -- Worked examples of the numbers that calls return, in checking order (document 01, "Twelve grounds"). Assumes nothing.
-use mathlib.Core.Option.{none}
 use mathlib.Core.List.{List, [], _∷_, _++_}
 use Prim.Native.Nat.{ℕ}
 use lib.IntN.{pos}
 use lib.ListN.{replicate}
 use Rattle.codec.specs.Area.{splice}
-use Rattle.search.specs.Answers.{searchAnswer}
 use Rattle.store.specs.World.{World, world}
 use Rattle.store.specs.Calls.{closeGround, dropGround, appendGround}
 use Rattle.worked_examples.specs.Figures.{one, two, four}
@@ -39,6 +37,4 @@ refusals =
     -- 128 + 24 + 2·8 = 168 on, are not 255
     ∷ (appendGround (store (nandWith 16384 16383) (norAt 6143) 2 2 15 2) 2 9 (pos 500), 11)
     ∷ (appendGround (store (nandWith 16384 16383) (norAt 168) 2 2 15 2) 2 9 (pos 500), 10)
-    -- search: damage is 10
-    ∷ (searchAnswer [] none .number, 10)
     ∷ []

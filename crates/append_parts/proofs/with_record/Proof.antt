@@ -1,11 +1,11 @@
--- `lift::with_record` meets its contract: three writes side by side.
+-- `with_record` meets its contract: three writes side by side.
 use mathlib.Core.Path.{_≡_}
 use lib.ListN.{length}
 use Rattle.lift.proofs.Records.{record-steps}
 use native.Mathlib.Omega.{arith}
 use borrow.Author.Needs.{needs}
-use Rattle.lift.proofs.with_record.Statement.{statement}
-use Rattle.lift.proofs.with_record.Tie as tie
+use Rattle.append_parts.proofs.with_record.Statement.{statement}
+use Rattle.append_parts.proofs.with_record.Tie as tie
 
 slice-aggregate-put-u64 : tie.Need-slice-aggregate-put-u64
 slice-aggregate-put-u64 c = search needs
