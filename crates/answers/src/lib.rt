@@ -1,4 +1,5 @@
 // The answers of `slotlist` (document 01, "Program"): numbers, lifts and counts laid out in columns.
+use lift::CODE_OF_ZERO;
 use lines::LOAD_COLUMNS;
 use lines::MINUS;
 use lines::SPACE;
@@ -21,8 +22,6 @@ const NUMBER_COLUMNS: usize = 3;
 const COUNT_COLUMNS: usize = 7;
 // Letter and number; an answer's count or counts follow.
 const HEAD_BYTES: usize = 4;
-// The stored load of 0.
-const CODE_OF_ZERO: u32 = 50001;
 
 // What is left to write of a number, from its last column: whether a digit is due, and whether a minus still is.
 pub struct Pen {

@@ -15,7 +15,9 @@ pub const LOAD_MIN: i32 = -50000;
 
 pub const LOAD_MAX: i32 = 100000;
 // "A load is stored as load + 50,001"
-const STORED_OFFSET: i32 = 50001;
+pub const CODE_OF_ZERO: u32 = 50001;
+
+const STORED_OFFSET: i32 = CODE_OF_ZERO as i32;
 
 pub const CODE_MAX: u32 = 150001;
 // "Its record has 32 bytes: time 8, load 4, note 20"
@@ -30,6 +32,7 @@ pub const LIFTS_MOST: u16 = 320;
 
 pub const LOADS_KEPT: usize = 13;
 
+// Where the load and the note stand in a record.
 pub const CODE_AT: usize = 8;
 
 pub const NOTE_AT: usize = 12;

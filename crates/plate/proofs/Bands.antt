@@ -102,6 +102,23 @@ pub plate-is : (p c k : ℕ) → Band p c k → p ≡ plateOf (subℕ c k)
 unfolding plateOf
 plate-is p c k b = first-is p c k b 20 0 (omega arith) (omega arith)
 
+-- by an upper end: a load up to it that is not below the band has that plate, one past it that is not past the next end has the next
+pub up-to-end : (p c k : ℕ) → p ≤ 19 → (1 ≤ p → 500 * p + k < c + 250) → c ≤ 500 * p + 250 + k → p ≡ plateOf (subℕ c k)
+up-to-end zero c k l a h = plate-is zero c k (lowest refl h)
+up-to-end (suc p) c k l a h = plate-is (suc p) c k (between (omega arith) l (a (omega arith)) h)
+
+pub past-end : (p c k : ℕ) → p ≤ 19 → 500 * p + 250 + k < c → (p ≤ 18 → c ≤ 500 * p + 750 + k) → p + 1 ≡ plateOf (subℕ c k)
+past-end p c k l h b = go (leb p 18) refl
+  where
+    go : (t : Bool) → leb p 18 ≡ t → p + 1 ≡ plateOf (subℕ c k)
+    go true e =
+        let s = leb-true p 18 e in
+        let n = b s in
+        plate-is (p + 1) c k (between (omega arith) (omega arith) (omega arith) (omega arith))
+    go false e =
+        let s = leb-false p 18 e in
+        plate-is (p + 1) c k (highest (omega arith) (omega arith))
+
 -- ---- every load lies in exactly one band
 
 record Found (c k : ℕ) : Type 0 where

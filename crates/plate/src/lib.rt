@@ -1,19 +1,26 @@
-// The plate of a load, and the counts of a tally by plate (document 01, "Plates").
+// The plate of a load, by the sticker on the frame, and the counts of a tally by plate (document 01, "Plates"; W-204).
+mod sticker;
+
+use lift::CODE_OF_ZERO;
 ghost use mathlib.Core.Path.{_≡_};
-ghost use Rattle.lift.specs.Limits.{loadOf};
+ghost use mathlib.Core.Bool.{false, _&&_};
+ghost use Prim.Native.Nat.{_<_};
+ghost use lib.Dec.{ltb, leb};
+ghost use lib.IntN.{subℕ};
+ghost use Rattle.lift.specs.Limits.{loadOf, loadShift};
 ghost use Rattle.plate.specs.Plate.{plateOf, lookup, noCounts};
 
 pub const PLATES: usize = 21;
 // Ground 5: a load is past its limit.
 const LOAD_PAST_LIMIT: u8 = 5;
-// "0 up to 250" and "20 above 9,750", as stored.
-const ZERO_UP_TO: u32 = 50251;
+// The whole 512s in a load number its plate or the one below it: a band is 500 wide, and in twenty of them 512 falls behind by less
+// than half a band. With twenty 512s a load is past every end.
+const NEAR: u32 = 512;
 
-const TWENTY_ABOVE: u32 = 59751;
-// Plate n of a load between is (load + 249) / 500, and of a stored load that much less 50,001.
-const BANDS_FROM: u32 = 49752;
+const PAST_ENDS: u32 = CODE_OF_ZERO + 20 * NEAR;
 
-const BAND: u32 = 500;
+// It has no end.
+const LAST_PLATE: u8 = 20;
 
 // The answer of the lookup: 0 and the plate, or 5 for a load past its limit.
 pub struct Lookup {
@@ -21,17 +28,39 @@ pub struct Lookup {
     pub plate: u8,
 }
 
+// The plate of a load from zero on, by the end that the sticker has near it.
+fn plate_by_end(load: u32) -> u8
+    requires { ⌜ load < 10240 ⌝ }
+    ensures { λ r. ⌜ r ≡ plateOf (subℕ load 0) ⌝ }
+{
+    let mut plate = load / NEAR;
+    let end = sticker::upper_end(plate);
+    if end < load {
+        plate = plate + 1;
+    }
+    plate as u8
+}
+
+// The plate of a load as stored that is below zero, or past all ends.
+fn far_plate(code: u32) -> u8
+    requires { ⌜ (leb loadShift code && ltb code 60241) ≡ false ⌝ }
+    ensures { λ r. ⌜ r ≡ plateOf (loadOf code) ⌝ }
+{
+    if code < CODE_OF_ZERO {
+        return 0;
+    }
+    LAST_PLATE
+}
+
 // The plate of a load as stored.
 pub fn plate_of_code(code: u32) -> u8
     ensures { λ r. ⌜ r ≡ plateOf (loadOf code) ⌝ }
 {
-    if code <= ZERO_UP_TO {
-        return 0;
+    let near = (CODE_OF_ZERO <= code) & (code < PAST_ENDS);
+    if !near {
+        return far_plate(code);
     }
-    if TWENTY_ABOVE < code {
-        return 20;
-    }
-    ((code - BANDS_FROM) / BAND) as u8
+    plate_by_end(code - CODE_OF_ZERO)
 }
 
 pub fn plate_of(load: i32) -> Lookup
