@@ -4,7 +4,7 @@ use crate::gym::{Gym, Random};
 use crate::in_place::InPlace;
 use crate::lift::{Contender, Lift, RECORD_BYTES};
 use crate::proved::Proved;
-use plain::{plate_of, Ground, OldState, State, Window, LOAD_MAX, LOAD_MIN, SLOT_BYTES, TIME_MAX};
+use plain::{plate_of, plate_on, Ground, OldState, State, Window, LOAD_MAX, LOAD_MIN, SLOT_BYTES, TIME_MAX};
 
 const TRIALS: usize = 4_000;
 
@@ -31,12 +31,21 @@ pub fn check() -> Seen {
         }
         check_conversions(&mut random, slots, &mut seen);
     }
-    for load in [LOAD_MIN - 1, LOAD_MIN, -500, 250, 251, 9_750, 9_751, LOAD_MAX, LOAD_MAX + 1] {
-        let mut answer = [0; 8];
-        assert_eq!(Proved::plate(load, &mut answer), number(plate_of(load)), "plate of {load}");
-        assert_eq!(u64::from_le_bytes(answer) as usize, plate_of(load).unwrap_or(0));
-    }
+    check_lookups();
     seen
+}
+
+/// Every load on each carried stack and at places beyond them; on twenty plates of 500 a lookup is what a tally goes by.
+fn check_lookups() {
+    for load in LOAD_MIN - 1..=LOAD_MAX + 1 {
+        for place in [0, 1, 2, 1 << 32, u64::MAX] {
+            let mut answer = [0; 8];
+            let plate = plate_on(place, load);
+            assert_eq!(Proved::plate(place, load, &mut answer), number(plate), "plate of {load} at {place}");
+            assert_eq!(u64::from_le_bytes(answer) as usize, plate.unwrap_or(0), "plate of {load} at {place}");
+        }
+        assert_eq!(plate_on(0, load), plate_of(load));
+    }
 }
 
 /// Up to three bytes are changed, mostly in headers, trees and the state; now and then the serials, S or NOR's length.

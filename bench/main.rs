@@ -23,7 +23,7 @@ mod stack;
 
 use carried::{backward, Carried, OldStore};
 use field::Field;
-use measure::{append_ratio, appends, conversions, searches, tallies, Line};
+use measure::{append_ratio, appends, conversions, lookups, searches, tallies, Line};
 use proved::Proved;
 use questions::{everything, five_plates, Questions};
 
@@ -79,7 +79,10 @@ fn depths() -> Vec<(&'static str, usize)> {
         ("drop", stack::depth(|| assert_eq!(dropping.drop_oldest(), 0))),
         ("search", stack::depth(|| assert_eq!(old.find(&window, &mut rows, &mut answer), 0))),
         ("tally", stack::depth(|| assert_eq!(old.by_plate(window.t1, window.t2, &mut counts), 0))),
-        ("plate", stack::depth(|| assert_eq!(Proved::plate(2_500, &mut answer), 0))),
+        (
+            "plate, on either stack",
+            stack::depth(|| (0..2).for_each(|at| assert_eq!(Proved::plate(at, 2_500, &mut answer), 0))),
+        ),
         ("forward", stack::depth(|| assert_eq!(carried.old.forward(&mut to_new), 0))),
         ("backward", stack::depth(|| assert_eq!(backward(&carried.new, &mut to_old), 0))),
     ]
@@ -93,7 +96,9 @@ fn main() {
     println!("answers by number, 0 first: {seen:?}.");
     let [(mut small, first), (_, second), (mut large, third)] = SIZES.map(measured);
     let carried = CONVERTED_SIZES.map(|slots| conversions(slots, report::CONVERSIONS));
-    let lines: Vec<Line> = first.into_iter().chain(second).chain(third).chain(carried.into_iter().flatten()).collect();
+    let lookups = [0, 1].map(|place| lookups(place, report::LOOKUPS[place as usize]));
+    let by_size = first.into_iter().chain(second).chain(third);
+    let lines: Vec<Line> = by_size.chain(carried.into_iter().flatten()).chain(lookups).collect();
     println!("All contenders find the same rows and counts.\n");
     println!("Nanoseconds of processor time a call: the median round (the smallest to the largest).");
     println!(

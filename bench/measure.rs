@@ -2,9 +2,11 @@
 use crate::carried::{backward, backward_in_place, Carried, OldStore};
 use crate::clock;
 use crate::field::{Field, CONTENDERS};
+use crate::gym::Gym;
 use crate::lift::{Contender, Lift};
 use crate::proved::Proved;
-use plain::{OldState, State, Window};
+use plain::{plate_on, OldState, State, Window};
+use std::hint::black_box;
 use std::time::{Duration, Instant};
 
 const ROUNDS_LEAST: usize = 7;
@@ -15,6 +17,8 @@ const ROUND_LEAST: f64 = 2e6;
 /// Appends change the log, so their number is fixed: every run asks the same questions of the same lifts.
 const APPEND_ROUNDS: usize = 15;
 const APPENDS_A_ROUND: usize = 20_000;
+/// A lookup is short: so many loads are looked up one after another.
+const LOADS_LOOKED_UP: usize = 4_096;
 
 /// The nanoseconds a call of one contender, round by round; none where it was not to be had.
 pub type Rounds = Vec<f64>;
@@ -36,7 +40,8 @@ pub fn ratio(above: &Rounds, below: &Rounds) -> Option<f64> {
 
 /// One kind of call at one S, the contenders in their order.
 pub struct Line {
-    pub slots: u64,
+    /// None where the call has no store.
+    pub slots: Option<u64>,
     pub call: &'static str,
     /// Lifts found, counted or carried over by a call, on average.
     pub found: f64,
@@ -74,7 +79,7 @@ pub fn appends(field: &mut Field, call: &'static str) -> Line {
         },
     );
     field.check_bytes();
-    Line { slots: field.slots, call, found: 1.0, rounds }
+    Line { slots: Some(field.slots), call, found: 1.0, rounds }
 }
 
 /// The store's appends at two sizes, in turns: the larger one's time over the smaller one's. The other contenders stay behind.
@@ -92,13 +97,13 @@ pub fn append_ratio(small: &mut Field, large: &mut Field) -> f64 {
 pub fn searches(field: &mut Field, call: &'static str, windows: &[Window]) -> Line {
     let found = field.check_searches(windows);
     let rounds = repeated(field, windows, |contender, rows| contender.search_all(windows, rows));
-    Line { slots: field.slots, call, found: found as f64 / windows.len() as f64, rounds }
+    Line { slots: Some(field.slots), call, found: found as f64 / windows.len() as f64, rounds }
 }
 
 pub fn tallies(field: &mut Field, call: &'static str, windows: &[Window]) -> Line {
     let found = field.check_tallies(windows);
     let rounds = repeated(field, windows, |contender, _| contender.tally_all(windows));
-    Line { slots: field.slots, call, found: found as f64 / windows.len() as f64, rounds }
+    Line { slots: Some(field.slots), call, found: found as f64 / windows.len() as f64, rounds }
 }
 
 /// Forward and backward of a filled store, by the store and by (a).
@@ -111,18 +116,31 @@ pub fn conversions(slots: u64, calls: [&'static str; 2]) -> [Line; 2] {
     let mut to_new = Proved::new(slots);
     let forward = in_turns(|by| match by {
         Side::Store => assert_eq!(old.forward(&mut to_new), 0),
-        Side::InPlace => drop(std::hint::black_box(old.forward_in_place(&old_state, &mut to_new).expect("a way"))),
+        Side::InPlace => drop(black_box(old.forward_in_place(&old_state, &mut to_new).expect("a way"))),
     });
     let mut to_old = OldStore::room_for(&new);
     let backward = in_turns(|by| match by {
         Side::Store => assert_eq!(backward(&new, &mut to_old), 0),
-        Side::InPlace => drop(std::hint::black_box(backward_in_place(&new, &state, &mut to_old).expect("a way"))),
+        Side::InPlace => drop(black_box(backward_in_place(&new, &state, &mut to_old).expect("a way"))),
     });
     let [forward_call, backward_call] = calls;
     [
-        Line { slots, call: forward_call, found, rounds: forward },
-        Line { slots, call: backward_call, found, rounds: backward },
+        Line { slots: Some(slots), call: forward_call, found, rounds: forward },
+        Line { slots: Some(slots), call: backward_call, found, rounds: backward },
     ]
+}
+
+/// The loads of a gym looked up on the carried stack at a place, by the store and by (a).
+pub fn lookups(place: u64, call: &'static str) -> Line {
+    let lifts = Gym::new(20_260_703).lifts(LOADS_LOOKED_UP);
+    let loads: Vec<i32> = lifts.iter().take(LOADS_LOOKED_UP).map(|lift| lift.load).collect();
+    let mut answer = [0; 8];
+    let rounds = in_turns(|by| match by {
+        Side::Store => loads.iter().for_each(|load| assert_eq!(Proved::plate(place, *load, &mut answer), 0)),
+        Side::InPlace => loads.iter().for_each(|load| assert!(black_box(plate_on(place, *load)).is_ok())),
+    });
+    let a_call = |ns: f64| ns / LOADS_LOOKED_UP as f64;
+    Line { slots: None, call, found: 0.0, rounds: rounds.map(|rounds| rounds.into_iter().map(a_call).collect()) }
 }
 
 /// The two contenders that keep the store's bytes.

@@ -72,7 +72,7 @@ extern "C" {
         answer: *mut u8,
         answer_len: usize,
     ) -> u8;
-    fn store_plate(load: i32, answer: *mut u8, answer_len: usize) -> u8;
+    fn store_plate(place: u64, load: i32, answer: *mut u8, answer_len: usize) -> u8;
 }
 
 /// State and chips as the console holds them; each call hands back its number.
@@ -190,8 +190,8 @@ impl Proved {
         }
     }
 
-    pub fn plate(load: i32, answer: &mut [u8; 8]) -> u8 {
-        unsafe { store_plate(load, answer.as_mut_ptr(), answer.len()) }
+    pub fn plate(place: u64, load: i32, answer: &mut [u8; 8]) -> u8 {
+        unsafe { store_plate(place, load, answer.as_mut_ptr(), answer.len()) }
     }
 
     /// How many lifts are retained.

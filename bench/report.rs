@@ -10,6 +10,8 @@ pub const ABSENT: &str = "search, absent load";
 pub const TALLY_DAY: &str = "tally, any day";
 pub const TALLY_ALL: &str = "tally, whole log";
 pub const CONVERSIONS: [&str; 2] = ["forward", "backward"];
+/// By the stack's place.
+pub const LOOKUPS: [&str; 2] = ["plate, twenty of 500", "plate, four of 250 over sixteen of 500"];
 
 const STACK_MOST: usize = 8_192;
 
@@ -40,6 +42,10 @@ fn ratio_cell(line: &Line, above: usize, below: usize) -> String {
     })
 }
 
+fn slots_cell(line: &Line) -> String {
+    line.slots.map_or("-".into(), |slots| slots.to_string())
+}
+
 pub fn table(lines: &[Line]) {
     let names = NAMES.join(" | ");
     println!("| S | call | lifts | {names} | store/(a) | (b)/store | (c)/store | (d)/store |");
@@ -48,7 +54,7 @@ pub fn table(lines: &[Line]) {
         let cells = line.rounds.each_ref().map(cell).join(" | ");
         let ratios = [(0, 1), (2, 0), (3, 0), (4, 0)].map(|(above, below)| ratio_cell(line, above, below));
         let found = grouped(line.found);
-        println!("| {} | {} | {found} | {cells} | {} |", line.slots, line.call, ratios.join(" | "));
+        println!("| {} | {} | {found} | {cells} | {} |", slots_cell(line), line.call, ratios.join(" | "));
     }
 }
 
@@ -73,7 +79,7 @@ pub fn faster(lines: &[Line]) {
         let others = (2..CONTENDERS).filter_map(|other| Some((NAMES[other], faster(other)?)));
         let others: Vec<String> = others.map(|(name, times)| format!("{name} {} times", times_cell(times))).collect();
         if !others.is_empty() {
-            println!("| {} | {} | {} |", line.slots, line.call, others.join(", "));
+            println!("| {} | {} | {} |", slots_cell(line), line.call, others.join(", "));
         }
     }
 }
@@ -99,7 +105,7 @@ fn target(what: &str, measured: String, reached: bool) {
 }
 
 fn find<'a>(lines: &'a [Line], slots: u64, call: &str) -> &'a Line {
-    lines.iter().find(|line| line.slots == slots && line.call == call).expect("a measured line")
+    lines.iter().find(|line| line.slots == Some(slots) && line.call == call).expect("a measured line")
 }
 
 /// The outside functions that an archive without a heap may call.
@@ -120,6 +126,7 @@ fn most(call: &str) -> f64 {
     match call {
         APPEND => 1.05,
         _ if CONVERSIONS.contains(&call) => 1.5,
+        _ if LOOKUPS.contains(&call) => 2.0,
         _ => 1.1,
     }
 }
@@ -128,7 +135,8 @@ fn time_targets(lines: &[Line], append_ratio: f64) {
     for line in lines {
         let ratio = ratio(&line.rounds[0], &line.rounds[1]).expect("both are always measured");
         let most = most(line.call);
-        let what = format!("{}, S = {}: at most {most} times (a)", line.call, line.slots);
+        let size = line.slots.map_or(String::new(), |slots| format!(", S = {slots}"));
+        let what = format!("{}{size}: at most {most} times (a)", line.call);
         target(&what, format!("{ratio:.2} times"), ratio <= most);
     }
     let what = "append at S = 4096: within 1.3 times of S = 2, measured in turns";

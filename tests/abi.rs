@@ -31,7 +31,7 @@ mod c {
             state: *const u8, state_len: usize, nand: *const u8, nand_len: usize, nor: *const u8, nor_len: usize,
             slots: u64, t1: u64, t2: u64, answer: *mut u8, answer_len: usize,
         ) -> u8;
-        pub fn store_plate(load: i32, answer: *mut u8, answer_len: usize) -> u8;
+        pub fn store_plate(place: u64, load: i32, answer: *mut u8, answer_len: usize) -> u8;
         pub fn store_forward(
             old: *const u8, old_len: usize, nand: *const u8, nand_len: usize, nor: *const u8, nor_len: usize,
             slots: u64, state: *mut u8, state_len: usize, to_nand: *mut u8, to_nand_len: usize, to_nor: *mut u8,
@@ -79,7 +79,7 @@ impl Lent {
 }
 
 /// The built library. NAND is lent as it is, since it may have 64 MB. No call of the library runs a store of form 0: such
-/// calls are answered by the model.
+/// calls are answered by the model. Inputs of the generator go to the built program.
 pub struct Library;
 
 impl Store for Library {
@@ -115,6 +115,10 @@ impl Store for Library {
             to_nor.hand_back(&mut second.nor),
         ];
         number_if(whole, number)
+    }
+
+    fn generate(&mut self, input: &[u8]) -> Result<Vec<u8>, String> {
+        program::printed(&program::beside("plate_ends")?, input)
     }
 }
 
@@ -184,7 +188,7 @@ pub fn enter(call: &Call, state: &mut [u8], nand: &mut [u8], nor: &mut [u8], row
             Call::Tally { slots, t1, t2 } => {
                 c::store_tally(st, st_len, na, na_len, no, no_len, slots, t1, t2, va, va_len)
             }
-            Call::Plate { load } => c::store_plate(load, va, va_len),
+            Call::Plate { place, load } => c::store_plate(place, load, va, va_len),
         }
     }
 }

@@ -1,5 +1,5 @@
 //! The rules of document 01, in form 1 of W-202, in place and without proofs: the same chips and bytes, the state a struct that the
-//! calls change; and W-203's conversions.
+//! calls change; W-203's conversions and W-205's lookup.
 #![no_std]
 #![forbid(unsafe_code)]
 
@@ -11,13 +11,15 @@ mod close;
 mod form;
 mod header;
 mod matches;
+mod plate;
 mod query;
 mod split;
 mod state;
 mod tree;
 
 pub use form::{OldState, OLD_STATE_BYTES};
-pub use query::{plate_of, Window};
+pub use plate::{plate_of, plate_on};
+pub use query::Window;
 pub use state::{Pointer, State, STATE_BYTES};
 
 /// The grounds by their numbers.
@@ -38,6 +40,7 @@ pub enum Ground {
     AreaTooSmall,
     OtherForm,
     NoWayBack,
+    NoStack,
 }
 
 pub const TIME_MAX: u64 = 999_999_999_999_999;

@@ -1,9 +1,10 @@
-//! Search, tally and plate lookup.
+//! Search and tally.
 use crate::bytes::{slot, u32_at};
 use crate::header::Header;
 use crate::matches::{Matches, Segment};
+use crate::plate::plate_of_code;
 use crate::state::{Pointer, State};
-use crate::{bloom, load_ok, stored, Ground, LOAD_MAX, LOAD_MIN, LOAD_OFFSET, RECORD_BYTES, TIME_MAX};
+use crate::{bloom, load_ok, stored, Ground, LOAD_MAX, LOAD_MIN, RECORD_BYTES, TIME_MAX};
 
 /// Times from t1 to t2 and loads from k1 to k2.
 #[derive(Clone, Copy, Debug)]
@@ -134,25 +135,5 @@ impl<'a> Log<'a> {
     fn may_match(&self, number: usize, header: &Header, asked: &Asked) -> bool {
         let meets = header.high >= asked.k1 && header.low <= asked.k2;
         meets && (asked.k1 < asked.k2 || bloom::may_hold(slot(self.nand, number), header.count, asked.k1))
-    }
-}
-
-fn plate_of_code(code: u32) -> usize {
-    const FIRST: u32 = (250 + LOAD_OFFSET) as u32;
-    const LAST: u32 = (9_750 + LOAD_OFFSET) as u32;
-    if code <= FIRST {
-        0
-    } else if code > LAST {
-        20
-    } else {
-        ((code + 249 - LOAD_OFFSET as u32) / 500) as usize
-    }
-}
-
-pub fn plate_of(load: i32) -> Result<usize, Ground> {
-    if load_ok(load) {
-        Ok(plate_of_code(stored(load)))
-    } else {
-        Err(Ground::LoadLimit)
     }
 }

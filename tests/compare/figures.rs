@@ -1,4 +1,5 @@
 //! What was compared, counted, and which ground each call can meet.
+use crate::stacks::ListFigures;
 use model::paper::{Closed, Said};
 use script::calls::{Call, Carry};
 use script::form::Form;
@@ -43,8 +44,8 @@ impl Turns {
     }
 }
 
-/// Up to 14; 20 is counted apart, since no script has an area of a wrong length.
-const NUMBERS: usize = 15;
+/// Up to 15; 20 is counted apart, since no script has an area of a wrong length.
+const NUMBERS: usize = 16;
 const CALLS: usize = Call::NAMES.len() + Carry::NAMES.len();
 
 /// The numbers of each call, in the order of `Call::NAMES` and then of `Carry::NAMES`.
@@ -55,7 +56,7 @@ const NUMBERS_OF_CALLS: [&[usize]; CALLS] = [
     &[0, 1, 2, 3, 9],
     &[0, 1, 2, 3, 4, 5, 6, 10, 12],
     &[0, 1, 2, 3, 4, 6, 10],
-    &[0, 5],
+    &[0, 5, 15],
     &[0, 1, 2, 3, 10, 13],
     &[0, 1, 2, 3, 10, 13, 14],
 ];
@@ -69,6 +70,8 @@ pub struct Figures {
     pub wrong_lengths: u64,
     /// Calls on stores of form 0, which the model alone answers.
     of_form_0: u64,
+    /// Inputs of the generator in scripts.
+    pub lists: ListFigures,
 }
 
 impl Figures {
@@ -105,10 +108,11 @@ impl Figures {
         Call::NAMES.into_iter().chain(Carry::NAMES).zip(&self.calls)
     }
 
-    /// Every pair of call and number that was not met.
+    /// Every pair of call and number that was not met, the generator's among them.
     pub fn missing(&self) -> Vec<String> {
         let rows = self.rows().zip(NUMBERS_OF_CALLS);
         let pairs = rows.flat_map(|((name, counts), numbers)| numbers.iter().map(move |n| (name, *n, counts[*n])));
+        let pairs = pairs.chain(self.lists.pairs());
         pairs.filter(|(_, _, count)| *count == 0).map(|(name, number, _)| format!("{name} {number}")).collect()
     }
 

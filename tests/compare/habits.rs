@@ -4,6 +4,7 @@ use crate::patterns::{near_plate_end, Loads, Times};
 use crate::random::Random;
 use crate::trial::Trial;
 use model::limits::{GREATEST_LOAD, LAST_TIME, LEAST_LOAD};
+use model::stacks::{carried, ends};
 use script::calls::{Call, Window, ROW_BYTES};
 use script::command::Field;
 
@@ -93,8 +94,8 @@ impl Habits {
         match trial.random.below(8) {
             0 => trial.call(Call::Tally { slots, t1: window.t1, t2: window.t2 }),
             1 => {
-                let load = plate_load(&mut trial.random);
-                trial.call(Call::Plate { load })
+                let call = lookup(&mut trial.random);
+                trial.call(call)
             }
             _ => {
                 let found = trial.rows_found(slots, &window) * ROW_BYTES;
@@ -178,7 +179,7 @@ impl Habits {
             1 => Call::Drop { slots },
             2 | 3 => Call::Append { slots, time, load, note: random.note() },
             4 => Call::Tally { slots, t1: window.t1, t2: window.t2 },
-            5 => Call::Plate { load },
+            5 => Call::Plate { place: any_place(random), load },
             _ => Call::Search { slots, window, area_bytes: random.index(2000) },
         }
     }
@@ -193,10 +194,21 @@ fn odd_load(random: &mut Random) -> i32 {
     random.pick(&[LEAST_LOAD - 1, LEAST_LOAD, GREATEST_LOAD, GREATEST_LOAD + 1, i32::MIN, i32::MAX])
 }
 
-/// Near the end of a plate's band, or past the limits.
-fn plate_load(random: &mut Random) -> i32 {
-    if random.once_in(10) {
-        return odd_load(random);
+/// A stack that is carried, now and then a place beyond them.
+fn any_place(random: &mut Random) -> u64 {
+    if random.once_in(6) {
+        return random.pick(&[2, 3, 16, 255, 256, 257, 1 << 32, 1 << 32 | 1, 1 << 63, u64::MAX - 1, u64::MAX]);
     }
-    near_plate_end(random)
+    random.below(2)
+}
+
+/// A plate looked up near the end of its band on that stack, or past the limits.
+fn lookup(random: &mut Random) -> Call {
+    let place = any_place(random);
+    let load = match carried().get(place as usize) {
+        _ if random.once_in(10) => odd_load(random),
+        Some(stack) if random.once_in(2) => random.pick(&ends(stack)) as i32 + random.load(-1, 1),
+        _ => near_plate_end(random),
+    };
+    Call::Plate { place, load }
 }

@@ -1,6 +1,7 @@
 //! Gives every command to the store and to the model, and compares all that they leave.
 use crate::figures::Figures;
 use crate::page_rules;
+use crate::programs;
 use crate::reached::Reached;
 use abi::{LentStore, Library};
 use model::bytes::Expectation;
@@ -109,6 +110,7 @@ impl Judge {
         match command {
             Command::Call(form, call) => return self.call(command, *form, call),
             Command::Carry(carry) => return self.carry(command, carry),
+            Command::Gen(input) => return self.generate(input),
             Command::Rows | Command::Dump { .. } | Command::Changed => return Ok(()),
             Command::Use(_) => {}
             Command::Snap => self.kept.clone_from(&self.reached),
@@ -207,6 +209,18 @@ impl Judge {
         };
         if number == 0 {
             self.reached[carry.second] = reached;
+        }
+        Ok(())
+    }
+
+    /// The generator works on no store; what it prints is compared.
+    fn generate(&mut self, input: &[u8]) -> Step {
+        let told = |what: String| Difference(format!("gen: {what}"));
+        let expected = Expectation.generate(input).map_err(told)?;
+        self.figures.lists.count(&expected);
+        if self.tested.is_some() {
+            let printed = Library.generate(input).map_err(told)?;
+            programs::compare(&printed, &expected).map_err(told)?;
         }
         Ok(())
     }

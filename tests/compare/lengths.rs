@@ -29,7 +29,7 @@ pub fn try_wrong_ones(trial: &mut Trial, slots: u64) -> Step {
         Call::Drop { slots },
         Call::Search { slots, window, area_bytes: 64 },
         Call::Tally { slots, t1: 0, t2: time },
-        Call::Plate { load: 251 },
+        Call::Plate { place: trial.random.below(3), load: 251 },
     ];
     calls.iter().try_for_each(|call| try_wrong_one(trial, call))
 }

@@ -1,4 +1,4 @@
-//! Holds the built library and the program to the model: random lists, damaged stores and conversions, one script,
+//! Holds the built library and the programs to the model: random lists, damaged stores and conversions, one script,
 //! random inputs.
 mod bases;
 mod convert;
@@ -13,9 +13,11 @@ mod lists;
 mod mids;
 mod page_rules;
 mod patterns;
+mod programs;
 mod random;
 mod reached;
 mod shorten;
+mod stacks;
 mod states;
 mod trial;
 
@@ -27,7 +29,8 @@ use std::time::{Duration, Instant};
 use trial::Trial;
 
 const USAGE: &str = "compare random SECONDS SEED FOLDER | compare fixed SCRIPT.. | compare write SEED KIND | \
-                     compare lines SECONDS SEED FOLDER | compare input SEED";
+                     compare lines SECONDS SEED FOLDER | compare input SEED | \
+                     compare stacks SECONDS SEED FOLDER | compare stack_list SEED";
 
 type Kind = (&'static str, fn(&mut Trial) -> Step);
 const LARGE: Kind = ("large", lists::on_largest_chip);
@@ -72,6 +75,8 @@ fn run(words: &[&str]) -> Result<(), String> {
         }
         ["lines", seconds, seed, folder] => lines::random_run(number(seconds)?, number(seed)?, folder),
         ["input", seed] => lines::write_input(number(seed)?),
+        ["stacks", seconds, seed, folder] => stacks::random_run(number(seconds)?, number(seed)?, folder),
+        ["stack_list", seed] => stacks::write_list(number(seed)?),
         _ => Err(usage()),
     }
 }
@@ -89,7 +94,7 @@ fn write_script(seed: u64, (_, generate): &Kind) -> Result<(), String> {
     Ok(())
 }
 
-/// Runs stored scripts; together they must meet every number of every call.
+/// Runs stored scripts; together they must meet every number of every call and of the generator.
 fn fixed_run(scripts: &[&str]) -> Result<(), String> {
     let mut judge = Judge::of_library();
     for script in scripts {
@@ -102,6 +107,7 @@ fn fixed_run(scripts: &[&str]) -> Result<(), String> {
         }
     }
     judge.figures.print();
+    judge.figures.lists.print();
     let missing = judge.figures.missing();
     if !missing.is_empty() {
         return Err(format!("the scripts never meet: {}", missing.join(", ")));

@@ -25,6 +25,7 @@ pub const PAGE_NOT_ERASED: u8 = 11;
 pub const TOO_MANY_ROWS: u8 = 12;
 pub const OTHER_FORM: u8 = 13;
 pub const NO_WAY_BACK: u8 = 14;
+pub const NO_STACK: u8 = 15;
 
 /// What a call gives, or the number of the first ground against it.
 pub type Outcome<T> = Result<T, u8>;

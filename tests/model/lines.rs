@@ -72,7 +72,7 @@ fn number_in(field: &[u8]) -> Option<i64> {
 }
 
 /// At least one digit, and nothing else.
-fn digits_in(text: &[u8]) -> Option<i64> {
+pub fn digits_in(text: &[u8]) -> Option<i64> {
     let are_digits = !text.is_empty() && text.iter().all(u8::is_ascii_digit);
     are_digits.then(|| text.iter().fold(0, |number, digit| 10 * number + i64::from(digit - b'0')))
 }

@@ -2,6 +2,7 @@
 use crate::limits::*;
 use crate::load_tree::LoadTree;
 use crate::plate::plate_of;
+use crate::stacks::plate_at;
 use script::calls::{Call, Window, PLATES};
 use script::form::Form;
 
@@ -112,10 +113,7 @@ impl PaperLog {
     /// The number of a call after the format, and what it does.
     pub fn call(&mut self, call: &Call) -> Outcome<Said> {
         match *call {
-            Call::Plate { load } => {
-                refuse_if(load_past_limit(load), LOAD_LIMIT)?;
-                Ok(Said { values: vec![plate_of(load) as u64], ..Said::default() })
-            }
+            Call::Plate { place, load } => Ok(Said { values: vec![plate_at(place, load)? as u64], ..Said::default() }),
             Call::Format { slots }
             | Call::Append { slots, .. }
             | Call::Close { slots }

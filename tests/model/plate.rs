@@ -1,4 +1,4 @@
-//! Document 01, "Plates".
+//! Document 01, "Plates": what tallies and the service page go by.
 use script::calls::PLATES;
 
 /// 0 up to 250; n for 500n-250 < load <= 500n+250; 20 above 9,750.

@@ -147,7 +147,8 @@ impl World {
                     self.selected = kept.selected;
                 }
             }
-            Command::Call(..) | Command::Carry(_) | Command::Rows | Command::Dump { .. } | Command::Changed => {}
+            Command::Call(..) | Command::Carry(_) | Command::Gen(_) => {}
+            Command::Rows | Command::Dump { .. } | Command::Changed => {}
         }
     }
 }

@@ -15,7 +15,7 @@ pub struct Window {
     pub k2: i32,
 }
 
-/// The seven calls of document 01.
+/// The seven calls of document 01; a plate is looked up on the stack at a place (W-205).
 #[derive(Clone, Debug, PartialEq)]
 pub enum Call {
     Format { slots: u64 },
@@ -24,7 +24,7 @@ pub enum Call {
     Drop { slots: u64 },
     Search { slots: u64, window: Window, area_bytes: usize },
     Tally { slots: u64, t1: u64, t2: u64 },
-    Plate { load: i32 },
+    Plate { place: u64, load: i32 },
 }
 
 impl Call {
@@ -110,4 +110,7 @@ pub trait Store {
 
     /// The first store is only read; it is lent to be changed so that a byte written there can be seen.
     fn carry(&mut self, carry: &Carry, first: &mut Areas, second: &mut Areas) -> u8;
+
+    /// What the generator of W-205 prints for an input; an error tells why it does not come to its end.
+    fn generate(&mut self, input: &[u8]) -> Result<Vec<u8>, String>;
 }

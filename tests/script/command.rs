@@ -88,7 +88,8 @@ impl Field {
     }
 }
 
-/// A call of document 01 is of a form; a plate is looked up without a store, and counts as form 1's.
+/// A call of document 01 is of a form; a plate is looked up without a store, and counts as form 1's. `Gen` has an input of
+/// the generator, which works on no store either.
 #[derive(Clone, Debug, PartialEq)]
 pub enum Command {
     Use(usize),
@@ -99,6 +100,7 @@ pub enum Command {
     Back,
     Call(Form, Call),
     Carry(Carry),
+    Gen(Vec<u8>),
     Rows,
     Dump { shown: Shown, offset: usize, length: usize },
     Changed,
@@ -135,7 +137,7 @@ impl fmt::Display for Call {
                 write!(out, "{slots} {t1} {t2} {k1} {k2} {area_bytes}")
             }
             Call::Tally { slots, t1, t2 } => write!(out, "{slots} {t1} {t2}"),
-            Call::Plate { load } => write!(out, "{load}"),
+            Call::Plate { place, load } => write!(out, "{place} {load}"),
         }
     }
 }
@@ -151,6 +153,8 @@ impl fmt::Display for Command {
             Command::Back => write!(out, "back"),
             Command::Call(form, call) => write!(out, "{} {call}", command_name(*form, call)),
             Command::Carry(carry) => write!(out, "{} {} {}", carry.name(), carry.slots, carry.second),
+            Command::Gen(input) if input.is_empty() => write!(out, "gen -"),
+            Command::Gen(input) => write!(out, "gen {}", hex(input)),
             Command::Rows => write!(out, "rows"),
             Command::Dump { shown, offset, length } => write!(out, "dump {} {offset} {length}", shown.name()),
             Command::Changed => write!(out, "changed"),

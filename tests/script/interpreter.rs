@@ -36,17 +36,18 @@ impl<S: Store> Interpreter<S> {
             let told = |problem: String| format!("line {}: {problem}", index + 1);
             let line = line.map_err(|error| told(error.to_string()))?;
             if let Some(command) = parse(&line).map_err(told)? {
-                let text = self.perform(&command);
+                let text = self.perform(&command).map_err(told)?;
                 out.write_all(text.as_bytes()).map_err(|error| error.to_string())?;
             }
         }
         out.flush().map_err(|error| error.to_string())
     }
 
-    fn perform(&mut self, command: &Command) -> String {
-        match command {
+    fn perform(&mut self, command: &Command) -> Result<String, String> {
+        let text = match command {
             Command::Call(form, call) => self.call(*form, call),
             Command::Carry(carry) => self.carry(carry),
+            Command::Gen(input) => format!("gen {}\n", hex(&self.store.generate(input)?)),
             Command::Rows => self.rows(),
             Command::Dump { shown, offset, length } => {
                 let bytes = match shown {
@@ -62,7 +63,8 @@ impl<S: Store> Interpreter<S> {
                 self.world.apply(other);
                 String::new()
             }
-        }
+        };
+        Ok(text)
     }
 
     fn remember_chips(&mut self) {

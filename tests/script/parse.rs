@@ -34,11 +34,16 @@ impl<'a> Words<'a> {
 
     fn note(&mut self) -> Result<[u8; 20], String> {
         let word = self.word()?;
-        if word.len() != 40 || !word.bytes().all(|digit| digit.is_ascii_hexdigit()) {
-            return Err(format!("'{word}' is not 40 hex digits"));
+        let bytes = bytes_in(word).and_then(|bytes| bytes.try_into().ok());
+        bytes.ok_or_else(|| format!("'{word}' is not 40 hex digits"))
+    }
+
+    /// The bytes of an input; '-' stands for none.
+    fn input(&mut self) -> Result<Vec<u8>, String> {
+        match self.word()? {
+            "-" => Ok(Vec::new()),
+            word => bytes_in(word).ok_or_else(|| format!("'{word}' is not of hex digits in pairs")),
         }
-        let byte = |i: usize| u8::from_str_radix(&word[2 * i..2 * i + 2], 16).unwrap();
-        Ok(std::array::from_fn(byte))
     }
 
     fn window(&mut self) -> Result<Window, String> {
@@ -60,7 +65,7 @@ impl<'a> Words<'a> {
 
     fn call(&mut self, name: &str) -> Result<Call, String> {
         if name == "plate" {
-            return Ok(Call::Plate { load: self.number()? });
+            return Ok(Call::Plate { place: self.number()?, load: self.number()? });
         }
         let slots = self.number()?;
         match name {
@@ -104,9 +109,17 @@ impl<'a> Words<'a> {
             "changed" => Ok(Command::Changed),
             "forward" => self.carry(Form::New),
             "backward" => self.carry(Form::Old),
+            "gen" => self.input().map(Command::Gen),
             name => self.call_of_form(name),
         }
     }
+}
+
+/// The bytes that a word of hex digits has, two digits each.
+fn bytes_in(word: &str) -> Option<Vec<u8>> {
+    let digits: Option<Vec<u8>> = word.chars().map(|digit| digit.to_digit(16).map(|digit| digit as u8)).collect();
+    let digits = digits.filter(|digits| digits.len() % 2 == 0)?;
+    Some(digits.chunks(2).map(|pair| 16 * pair[0] + pair[1]).collect())
 }
 
 /// The command of a line; none for an empty line and for a note, which begins with '#'.

@@ -96,7 +96,7 @@ fn read_on(f: Field, b: u8) -> Field
 }
 
 // The field in `width` columns from `at`.
-fn field_at(s: &[u8], at: usize, width: usize) -> Field
+pub fn field_at(s: &[u8], at: usize, width: usize) -> Field
     requires { ⌜ (at + width ≤ length (now s)) × (width ≤ 18) ⌝ }
     ensures { λ r. ⌜ (r ≡ fieldIn (part (now (s .entry)) at width)) × (valueOf r < 10 ^ width) ⌝ }
 {
@@ -112,7 +112,7 @@ fn field_at(s: &[u8], at: usize, width: usize) -> Field
     f
 }
 
-fn is_time(f: Field) -> bool
+pub fn is_time(f: Field) -> bool
     ensures { λ r. ⌜ r ≡ Columns.isTime f ⌝ }
 {
     match f {
@@ -135,7 +135,7 @@ fn is_load(f: Field) -> bool
     }
 }
 
-fn time_of(f: Field) -> u64
+pub fn time_of(f: Field) -> u64
     ensures { λ r. ⌜ r ≡ valueOf f ⌝ }
 {
     match f {

@@ -1,2 +1,4 @@
 pub mod Plate
+pub mod Stack
+pub mod Carried
 pub mod Inner

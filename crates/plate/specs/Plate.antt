@@ -6,8 +6,7 @@ use lib.Dec.{eqb}
 use lib.IntN.{ℤ, pos, subℕ}
 use lib.ListN.{replicate}
 use lib.Signed.{ltZ, leZ}
-use Rattle.lift.specs.Limits.{loadOk, loadOf}
-use Rattle.plate.specs.declared.Lookup.{Lookup}
+use Rattle.lift.specs.Limits.{loadOf}
 
 -- plates 0 to 20
 abbrev pub plates : ℕ
@@ -31,10 +30,6 @@ firstFrom (suc k) n load = cond (inBand n load) n (firstFrom k (suc n) load)
 -- "Plate of a load", 0 to 20
 unfoldable pub plateOf : ℤ → ℕ
 plateOf load = firstFrom lastPlate 0 load
-
--- the lookup's answer: number 0 and the plate; "The lookup refuses only by ground 5"
-unfoldable pub lookup : ℤ → Lookup
-lookup load = cond (loadOk load) (record { number = 0; plate = plateOf load }) (record { number = 5; plate = 0 })
 
 -- how many of these stored loads have plate n
 unfoldable pub countAt : ℕ → List ℕ → ℕ

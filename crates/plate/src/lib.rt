@@ -1,4 +1,5 @@
-// The plate of a load, by the sticker on the frame, and the counts of a tally by plate (document 01, "Plates"; W-204).
+// The plate of a load: on a carried stack (W-205) and, for a tally, by the sticker on the frame (document 01, "Plates"; W-204).
+mod stacks;
 mod sticker;
 
 use lift::CODE_OF_ZERO;
@@ -8,11 +9,14 @@ ghost use Prim.Native.Nat.{_<_};
 ghost use lib.Dec.{ltb, leb};
 ghost use lib.IntN.{subℕ};
 ghost use Rattle.lift.specs.Limits.{loadOf, loadShift};
-ghost use Rattle.plate.specs.Plate.{plateOf, lookup, noCounts};
+ghost use Rattle.plate.specs.Plate.{plateOf, noCounts};
+ghost use Rattle.plate.specs.Carried.{lookup};
 
 pub const PLATES: usize = 21;
 // Ground 5: a load is past its limit.
 const LOAD_PAST_LIMIT: u8 = 5;
+// Ground 15: no stack is carried at this place.
+const NO_SUCH_STACK: u8 = 15;
 // The whole 512s in a load number its plate or the one below it: a band is 500 wide, and in twenty of them 512 falls behind by less
 // than half a band. With twenty 512s a load is past every end.
 const NEAR: u32 = 512;
@@ -22,7 +26,7 @@ const PAST_ENDS: u32 = CODE_OF_ZERO + 20 * NEAR;
 // It has no end.
 const LAST_PLATE: u8 = 20;
 
-// The answer of the lookup: 0 and the plate, or 5 for a load past its limit.
+// The answer of the lookup: 0 and the plate; 5 for a load past its limit, 15 for a place beyond the carried stacks.
 pub struct Lookup {
     pub number: u8,
     pub plate: u8,
@@ -63,8 +67,8 @@ pub fn plate_of_code(code: u32) -> u8
     plate_by_end(code - CODE_OF_ZERO)
 }
 
-pub fn plate_of(load: i32) -> Lookup
-    ensures { λ r. ⌜ r ≡ lookup load ⌝ }
+pub fn plate_of(place: u64, load: i32) -> Lookup
+    ensures { λ r. ⌜ r ≡ lookup place load ⌝ }
 {
     let ok = lift::load_ok(load);
     if !ok {
@@ -73,8 +77,14 @@ pub fn plate_of(load: i32) -> Lookup
             plate: 0,
         };
     }
+    if stacks::CARRIED <= place {
+        return Lookup {
+            number: NO_SUCH_STACK,
+            plate: 0,
+        };
+    }
     let code = lift::stored(load);
-    let plate = plate_of_code(code);
+    let plate = stacks::plate_on(place, code);
     Lookup { number: 0, plate }
 }
 

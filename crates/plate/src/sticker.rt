@@ -1,37 +1,14 @@
-// The sticker on the frame (W-204).
+// The sticker on the frame (W-204), for a tally.
+use crate::stacks::TWENTY_OF_500;
 ghost use mathlib.Core.Path.{_≡_};
 ghost use Prim.Native.Nat.{_+_, _*_, _≤_};
-
-// Up to which load a plate's band goes, plate 0 first, in units of 10 g. Plate 20 has no end.
-const UPPER_ENDS: [u32; 20] = [
-    250,
-    750,
-    1250,
-    1750,
-    2250,
-    2750,
-    3250,
-    3750,
-    4250,
-    4750,
-    5250,
-    5750,
-    6250,
-    6750,
-    7250,
-    7750,
-    8250,
-    8750,
-    9250,
-    9750,
-];
 
 // Each place is written out, because a table that is read at a place known only later is laid out anew for each lift.
 pub fn upper_end(plate: u32) -> u32
     requires { ⌜ plate ≤ 19 ⌝ }
     ensures { λ r. ⌜ r ≡ 500 * plate + 250 ⌝ }
 {
-    let ends = UPPER_ENDS;
+    let ends = TWENTY_OF_500;
     match plate {
         0 => ends[0],
         1 => ends[1],

@@ -8,7 +8,8 @@ use lib.Dec.{eqb}
 use lib.IntN.{ℤ}
 use lib.ListN.{length}
 use Rattle.codec.specs.Number.{bytes}
-use Rattle.plate.specs.Plate.{lookup, plates}
+use Rattle.plate.specs.Plate.{plates}
+use Rattle.plate.specs.Carried.{lookup}
 use Rattle.form.specs.declared.Form.the-variants.{Old, New}
 use Rattle.store.specs.World.{World, world}
 use Rattle.store.specs.Calls.{Outcome, formatOutcome, appendOutcome, closeOutcome, dropOutcome}
@@ -101,8 +102,7 @@ tallyCalled area nand nor slots t1 t2 answer =
     repliedIn area answer (8 * plates) [] (replied (o .number) [] (kept (o .number) (sideBySide (bytes 8) (o .counts)) answer))
 
 -- the plate in 8 bytes
-unfoldable pub plateCalled : ℤ → List ℕ → Answered
-plateCalled load answer =
-    cond (eqb (length answer) 8)
-    (replied (lookup load .number) [] (kept (lookup load .number) (bytes 8 (lookup load .plate)) answer))
-    (replied 20 [] answer)
+unfoldable pub plateCalled : ℕ → ℤ → List ℕ → Answered
+plateCalled place load answer =
+    let p = lookup place load in
+    cond (eqb (length answer) 8) (replied (p .number) [] (kept (p .number) (bytes 8 (p .plate)) answer)) (replied 20 [] answer)

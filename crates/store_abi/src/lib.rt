@@ -243,13 +243,13 @@ pub extern "C" fn store_tally(
 }
 
 #[no_mangle]
-pub extern "C" fn store_plate(load: i32, answer: &mut [u8]) -> u8
-    ensures { λ r. ⌜ replied r [] (now (answer .exit)) ≡ plateCalled load (now (answer .entry)) ⌝ }
+pub extern "C" fn store_plate(place: u64, load: i32, answer: &mut [u8]) -> u8
+    ensures { λ r. ⌜ replied r [] (now (answer .exit)) ≡ plateCalled place load (now (answer .entry)) ⌝ }
 {
     if answer.len() != NUMBER_BYTES {
         return AREA_LENGTH;
     }
-    let p = plate::plate_of(load);
+    let p = plate::plate_of(place, load);
     kept::keep_number(answer, p.number, p.plate as u64);
     p.number
 }

@@ -51,9 +51,9 @@ fn tally(nand: &[u8], nor: &[u8], t0: Trial, o: Order) -> Trial {
     t
 }
 
-fn plate(t0: Trial, code: u64) -> Trial {
+fn plate(t0: Trial, place: u64, code: u64) -> Trial {
     let mut t = t0;
-    let p = plate::plate_of(trial_calls::load_of(code));
+    let p = plate::plate_of(place, trial_calls::load_of(code));
     t.number = p.number;
     t.found = p.plate as u64;
     t
@@ -121,7 +121,7 @@ pub fn asked(nand: &[u8], nor: &[u8], t: Trial, o: Order) -> Trial {
     match letter {
         QUERY => query(nand, nor, t, o),
         TALLY => tally(nand, nor, t, o),
-        PLATE => plate(t, o.a),
+        PLATE => plate(t, o.a, o.b),
         SLOTS => with_slots(t, o.a),
         EXTENT => with_bytes(t, o.a, o.b),
         VALUE => with_value(t, o.a, o.b),

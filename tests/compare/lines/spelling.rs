@@ -5,7 +5,8 @@ use script::calls::Window;
 const TIME_COLUMNS: usize = 15;
 const LOAD_COLUMNS: usize = 8;
 
-fn field(random: &mut Random, width: usize, number: i64) -> String {
+/// A number right-justified in so many columns.
+pub fn field(random: &mut Random, width: usize, number: i64) -> String {
     let digits = match random.below(30) {
         0 => width,
         1 => random.index(width),

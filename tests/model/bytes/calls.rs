@@ -7,6 +7,7 @@ use super::state::State;
 use super::work::{put_state, Work};
 use crate::limits::*;
 use crate::plate::plate_of;
+use crate::stacks::{generated, plate_at};
 use script::areas::{Areas, SLOT_BYTES};
 use script::calls::{Call, Carry, Outputs, Store, Window, PLATES};
 use script::form::Form;
@@ -25,13 +26,17 @@ impl Store for Expectation {
             Call::Drop { slots } => drop_oldest(form, areas, slots),
             Call::Search { slots, ref window, .. } => search(form, areas, slots, window, outputs),
             Call::Tally { slots, t1, t2 } => tally(form, areas, slots, t1, t2, outputs),
-            Call::Plate { load } => plate(load, outputs),
+            Call::Plate { place, load } => plate(place, load, outputs),
         };
         result.err().unwrap_or(0)
     }
 
     fn carry(&mut self, carry: &Carry, first: &mut Areas, second: &mut Areas) -> u8 {
         carry_over(carry.into, carry.slots, first, second).err().unwrap_or(0)
+    }
+
+    fn generate(&mut self, input: &[u8]) -> Result<Vec<u8>, String> {
+        Ok(generated(input))
     }
 }
 
@@ -131,8 +136,7 @@ fn tally(form: Form, areas: &Areas, slots: u64, t1: u64, t2: u64, outputs: &mut 
     Ok(())
 }
 
-fn plate(load: i32, outputs: &mut Outputs) -> Outcome<()> {
-    refuse_if(load_past_limit(load), LOAD_LIMIT)?;
-    put_values(outputs, &[plate_of(load) as u64]);
+fn plate(place: u64, load: i32, outputs: &mut Outputs) -> Outcome<()> {
+    put_values(outputs, &[plate_at(place, load)? as u64]);
     Ok(())
 }

@@ -2,7 +2,7 @@
 use mathlib.Core.Path.{ap, _∙_}
 use mir.Syntax.{w32}
 use mir.ValLaws.{toZ-ofZ}
-use Rattle.plate.specs.Plate.{lookup}
+use Rattle.plate.specs.Carried.{lookup}
 use Rattle.store_abi.specs.Areas.{plateCalled}
 use Rattle.store_abi.proofs.Leaves.{one-wrong, one-right, plate-left}
 use borrow.Author.Needs.{needs}
@@ -29,7 +29,8 @@ returns-2 : tie.Need-returns-2
 unfolding plateCalled
 returns-2 c =
     let w = c .before .before .before .before .before .before .before .before in
-    plate-left _ _ _ _ (c .before .before .before .before .before .plate-of .ensures ∙ ap lookup (toZ-ofZ w32 (w .args .load) (w .fits .load))) (c .before .before .keep-number .ensures)
+    let p = c .before .before .before .before .before .plate-of .ensures ∙ ap (lookup (w .args .place)) (toZ-ofZ w32 (w .args .load) (w .fits .load)) in
+    plate-left _ _ _ _ p (c .before .before .keep-number .ensures)
     ∙ one-right _ 8 _ _ (c .before .before .before .before .before .before .if1 .left)
 
 pub store-plate-spec : {M : Type 1} → statement M

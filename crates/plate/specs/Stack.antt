@@ -1,0 +1,66 @@
+-- Stacks of uneven plates (document 02, W-205): where the band of each plate ends. A stack is the list of its plates, top first.
+-- Assumes nothing.
+use mathlib.Core.Bool.{Bool, true, cond, _&&_, _||_}
+use mathlib.Core.List.{List, [], _∷_}
+use Prim.Native.Nat.{ℕ, zero, suc, _+_, _/_}
+use lib.Dec.{leb, eqb}
+use lib.IntN.{ℤ, pos}
+use lib.ListN.{length, getD, take}
+use lib.Signed.{ltZ, leZ}
+use Rattle.plate.specs.Plate.{total}
+
+-- ---- the sizes: "A stack has 1 to 24 plates of 100 to 5,000 units each."
+
+abbrev pub mostPlates : ℕ
+mostPlates = 24
+
+abbrev pub isPlate : ℕ → Bool
+isPlate p = leb 100 p && leb p 5000
+
+unfoldable pub allPlates : List ℕ → Bool
+allPlates [] = true
+allPlates (p ∷ ps) = isPlate p && allPlates ps
+
+unfoldable pub isStack : List ℕ → Bool
+isStack stack = (leb 1 (length stack) && leb (length stack) mostPlates) && allPlates stack
+
+-- ---- the rule
+
+-- "the sum down to" plate n: of the first n plates
+unfoldable pub sumDownTo : List ℕ → ℕ → ℕ
+sumDownTo stack n = total (take n stack)
+
+-- "Plate 0 ends at half the first plate, rounded down. A plate's band ends halfway, rounded down, between the sum down to it and the
+-- sum down to the next"
+unfoldable pub endOf : List ℕ → ℕ → ℕ
+endOf stack zero = getD stack 0 0 / 2
+endOf stack (suc n) = (sumDownTo stack (suc n) + sumDownTo stack (suc (suc n))) / 2
+
+-- the ends of k plates from n on
+unfoldable pub endsFrom : List ℕ → ℕ → ℕ → List ℕ
+endsFrom stack zero n = []
+endsFrom stack (suc k) n = endOf stack n ∷ endsFrom stack k (suc n)
+
+-- "the last band has no end": m plates below plate 0 have m ends
+unfoldable pub endsOf : List ℕ → List ℕ
+endsOf stack = endsFrom stack (length stack) 0
+
+-- ---- the bands
+
+-- the load is past the end of the plate above
+unfoldable pub pastAbove : List ℕ → ℕ → ℤ → Bool
+pastAbove stack zero load = true
+pastAbove stack (suc n) load = ltZ (pos (endOf stack n)) load
+
+-- the load lies in the band of plate n
+unfoldable pub inBandOf : List ℕ → ℕ → ℤ → Bool
+inBandOf stack n load = pastAbove stack n load && (eqb n (length stack) || leZ load (pos (endOf stack n)))
+
+-- the plate of a load by the ends of the bands: the first that the load is not past; past all of them the last plate
+unfoldable pub plateBy : List ℕ → ℤ → ℕ
+plateBy [] load = 0
+plateBy (end ∷ ends) load = cond (leZ load (pos end)) 0 (suc (plateBy ends load))
+
+-- the plate of a load on a stack
+abbrev pub plateOn : List ℕ → ℤ → ℕ
+plateOn stack load = plateBy (endsOf stack) load

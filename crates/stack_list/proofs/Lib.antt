@@ -1,0 +1,9 @@
+pub mod Cut
+pub mod Judged
+pub mod PlateLine
+pub mod ReadTurns
+pub mod PrintTurns
+pub mod Printed
+pub mod ReadBack
+pub mod AnyList
+pub mod Example

@@ -1,0 +1,185 @@
+-- The turns of the loop that prints the ends, and what all its lines are: the ends of the stacks that the text lists. Assumes nothing.
+use mathlib.Core.Path.{_≡_, refl, sym, ap, _∙_}
+use mathlib.Core.Bool.{Bool, true, false, cond, _&&_}
+use mathlib.Core.List.{List, [], _∷_, _++_, map, append-assoc, append-nil}
+use Prim.Native.Nat.{ℕ, suc, _+_, _-_, _*_, _/_, _≤_, _<_}
+use native.Mathlib.Omega.{arith}
+use borrow.Author.Tests.{ltb-true, eq-eqb, ne-eqb}
+use lib.Dec.{ltb, eqb}
+use lib.ListN.{length, take, drop, getD, set, length-append, length-set, drop-of-length-le}
+use lib.Seq.{drop-cons, take-at, length-take-le}
+use Rattle.codec.specs.Area.{splice, repeated}
+use Rattle.codec.proofs.Areas.{splice-next, length-splice}
+use Rattle.codec.proofs.Truth.{and-left, and-right}
+use Rattle.plate.specs.Stack.{endsOf}
+use Rattle.plate.proofs.Ends.{running, ends-running}
+use Rattle.lines.specs.Columns.{readFrom}
+use Rattle.answers.specs.Printed.{number, justified, digits, digitsWithin}
+use Rattle.answers.proofs.Justified.{length-justified}
+use Rattle.answers.proofs.Printing.{byte-stored}
+use Rattle.stack_list.specs.ListForm.{linesOf, isBlank, atTop, byStacks, plateIn, isList, stacksIn, ended, further, textOf, listText}
+use Rattle.stack_list.specs.Generated.{refusal}
+use Rattle.stack_list.specs.Inner.Turns.{plateOr0, listFrom, endLine, sumOn, endLines}
+use Rattle.stack_list.proofs.Cut.{some-stack}
+use Rattle.stack_list.proofs.Judged.{plate-read, plate-least, judged}
+
+-- ---- one line
+
+length-number : (v : ℕ) → length (number 6 v) ≡ 6
+length-number v = length-justified 6 _
+
+module _ (s : List ℕ) (at sum n : ℕ) (h : at + 7 ≤ length s) where
+  pub blank-put : n ≡ 0 → (set s at 10 ≡ splice s at (endLine sum n)) × (at + 1 ≡ at + length (endLine sum n))
+  unfolding endLine
+  blank-put z = rw (eq-eqb n 0 z) (byte-stored s at 10 (omega arith), refl)
+
+  pub end-put : (n ≡ 0 → ⊥) → (s' : List ℕ) → s' ≡ splice s at (number 6 (sum + n / 2)) → length s' ≡ length s
+      → (set s' (at + 6) 10 ≡ splice s at (endLine sum n)) × (at + 6 + 1 ≡ at + length (endLine sum n))
+  unfolding endLine
+  end-put z s' e k =
+      let l = length-number (sum + n / 2) in
+      let m : length (number 6 (sum + n / 2) ++ (10 ∷ [])) ≡ 7 = simp length-append (omega arith) in
+      rw (ne-eqb n 0 z) (
+        byte-stored s' (at + 6) 10 (omega arith)
+            ∙ ap (λ (t : List ℕ). splice t (at + 6) (10 ∷ [])) e
+            ∙ splice-next s at (number 6 (sum + n / 2)) (at + 6) (10 ∷ []) (omega arith) (omega arith),
+        omega arith,
+      )
+
+line-most : (sum n : ℕ) → length (endLine sum n) ≤ 7
+unfolding endLine
+line-most sum n = go (eqb n 0)
+  where
+    go : (t : Bool) → length (cond t (10 ∷ []) (number 6 (sum + n / 2) ++ (10 ∷ []))) ≤ 7
+    go true = omega arith
+    go false = let l = length-number (sum + n / 2) in simp length-append (omega arith)
+
+sum-most : (sum n : ℕ) → sumOn sum n ≤ sum + n
+sum-most sum n = go (eqb n 0)
+  where
+    go : (t : Bool) → cond t 0 (sum + n) ≤ sum + n
+    go true = omega arith
+    go false = omega arith
+
+-- ---- a turn
+
+take-splice : (s : List ℕ) (at : ℕ) (p : List ℕ) → at + length p ≤ length s → take (at + length p) (splice s at p) ≡ take at s ++ p
+unfolding splice
+take-splice s at p h =
+    let k : length (take at s) ≡ at = length-take-le at s (omega arith) in
+    take-at (take at s ++ p) (drop (at + length p) s) (at + length p) (simp (length-append, k) refl)
+
+-- "15 alone": two digits and the line feed
+fifteen : number 2 15 ≡ 49 ∷ 53 ∷ []
+unfolding justified digits digitsWithin repeated
+fifteen = refl
+
+pub refusal-put : (s : List ℕ) → 3 ≤ length s → (s' : List ℕ) → s' ≡ splice s 0 (number 2 15) → length s' ≡ length s
+    → (3 ≤ length (set s' 2 10)) × (take 3 (set s' 2 10) ≡ refusal)
+refusal-put s h s' e k =
+    let p : set s' 2 10 ≡ splice s 0 refusal =
+    byte-stored s' 2 10 (omega arith)
+    ∙ ap (λ (t : List ℕ). splice t 2 (10 ∷ [])) (e ∙ ap (splice s 0) fifteen)
+    ∙ splice-next s 0 (49 ∷ 53 ∷ []) 2 (10 ∷ []) refl (omega arith) in
+    (simp length-set (omega arith), rw p (take-splice s 0 refusal (omega arith)))
+
+line-on : (s : List ℕ) (at sum i : ℕ) (ns : List ℕ) → i < length ns → at + 7 ≤ length s
+    → take (at + length (endLine sum (getD ns i 0))) (splice s at (endLine sum (getD ns i 0)))
+    ++ endLines (sumOn sum (getD ns i 0)) (drop (i + 1) ns)
+    ≡ take at s ++ endLines sum (drop i ns)
+unfolding endLines
+line-on s at sum i ns h k =
+    let e : i + 1 ≡ suc i = omega arith in
+    let m = line-most sum (getD ns i 0) in
+    rw (e, drop-cons ns i 0 h, take-splice s at (endLine sum (getD ns i 0)) (omega arith))
+    (append-assoc (take at s) (endLine sum (getD ns i 0)) _)
+
+-- where the loop stands: what is printed, with the lines left, is the whole
+pub record Printed (numbers first out : List ℕ) (sum at i : ℕ) : Type 0 where
+  pub within : i ≤ length numbers
+  pub same : length out ≡ length first
+  pub room : at ≤ 7 * i
+  pub small : sum ≤ 4294967296 * i
+  pub whole : take at out ++ endLines sum (drop i numbers) ≡ endLines 0 numbers
+
+module _ (numbers first out : List ℕ) (sum at i : ℕ) (v : Printed numbers first out sum at i) where
+  pub printed-on : i < length numbers → 7 * length numbers ≤ length first → getD numbers i 0 < 4294967296 → (out' : List ℕ) (sum' at' : ℕ)
+      → out' ≡ splice out at (endLine sum (getD numbers i 0)) → at' ≡ at + length (endLine sum (getD numbers i 0))
+      → sum' ≡ sumOn sum (getD numbers i 0)
+      → Printed numbers first out' sum' at' (i + 1)
+  printed-on h r n out' sum' at' p q s =
+      let m = line-most sum (getD numbers i 0) in
+      let k = sum-most sum (getD numbers i 0) in
+      let w : at + 7 ≤ length out = omega (arith, v .room, v .same) in
+      let l = length-splice out at (endLine sum (getD numbers i 0)) (omega arith) in
+      record {
+        within = omega arith;
+        same = ap length p ∙ l ∙ v .same;
+        room = omega (arith, v .room);
+        small = omega (arith, v .small);
+        whole = rw (p, q, s) (line-on out at sum i numbers h w ∙ v .whole);
+      }
+
+  pub printed-all : length numbers ≤ i → 7 * length numbers ≤ length first → (at ≤ length out) × (take at out ≡ endLines 0 numbers)
+  unfolding endLines
+  printed-all h r =
+      let d : drop i numbers ≡ [] = drop-of-length-le numbers h in
+      (omega (arith, v .room, v .same, v .within), sym (append-nil (take at out)) ∙ (rw d at (v .whole)))
+
+-- ---- all lines
+
+-- every line that is not blank has a number
+abbrev EachSome : List (List ℕ) → Type 0
+EachSome [] = Unit {0}
+EachSome ([] ∷ lines) = EachSome lines
+EachSome ((b ∷ line) ∷ lines) = (0 < plateIn (b ∷ line)) × EachSome lines
+
+list-some : (ls : List (List ℕ)) (a n : ℕ) → listFrom a n ls ≡ true → EachSome ls
+unfolding listFrom isBlank
+list-some [] a n e = tt
+list-some ([] ∷ ls) a n e = list-some ls (suc a) 0 (and-right (ltb 0 n && ltb a 16) (listFrom (suc a) 0 ls) e)
+list-some ((b ∷ l) ∷ ls) a n e =
+    let t = and-left (ltb n 24 && ltb 0 (plateOr0 (b ∷ l))) (listFrom a (suc n) ls) e in
+    let p = plate-read (b ∷ l) (ltb-true 0 (plateOr0 (b ∷ l)) (and-right (ltb n 24) (ltb 0 (plateOr0 (b ∷ l))) t)) in
+    let m = plate-least (b ∷ l) (p .1 .0) in
+    (omega arith, list-some ls a (suc n) (and-right (ltb n 24 && ltb 0 (plateOr0 (b ∷ l))) (listFrom a (suc n) ls) e))
+
+-- the ends of lines by stacks, the first stack under plates of this sum
+abbrev textUnder : ℕ → List (List (List ℕ)) → List ℕ
+textUnder sum [] = []
+textUnder sum (g ∷ gs) =
+    ended (map (number 6) (running sum (map plateIn g))) ++ further (map (map (number 6)) (map endsOf (map (map plateIn) gs)))
+
+printed-under : (ls : List (List ℕ)) (sum : ℕ) → EachSome ls → endLines sum (map plateIn ls) ≡ textUnder sum (byStacks ls)
+unfolding endLines endLine byStacks isBlank atTop ended further running readFrom
+printed-under [] sum each = refl
+printed-under ([] ∷ ls) sum each = go (byStacks ls) (some-stack ls) (printed-under ls 0 each)
+  where
+    go : (G : List (List (List ℕ))) → 0 < length G → endLines 0 (map plateIn ls) ≡ textUnder 0 G
+        → 10 ∷ endLines 0 (map plateIn ls) ≡ textUnder sum ([] ∷ G)
+    go [] h e = absurd (omega arith)
+    go (g ∷ gs) h e = rw (ends-running (map plateIn g)) (ap (λ (t : List ℕ). 10 ∷ t) e)
+printed-under ((b ∷ l) ∷ ls) sum each =
+    go (byStacks ls) (some-stack ls) (printed-under ls (sum + plateIn (b ∷ l)) (each .1))
+  where
+    go : (G : List (List (List ℕ))) → 0 < length G
+        → endLines (sum + plateIn (b ∷ l)) (map plateIn ls) ≡ textUnder (sum + plateIn (b ∷ l)) G
+        → endLines sum (plateIn (b ∷ l) ∷ map plateIn ls) ≡ textUnder sum (atTop (b ∷ l) G)
+    go [] h e = absurd (omega arith)
+    go (g ∷ gs) h e =
+        let s = each .0 in
+        let z : eqb (plateIn (b ∷ l)) 0 ≡ false = ne-eqb (plateIn (b ∷ l)) 0 (λ q. omega arith) in
+        let p : ℕ = plateIn (b ∷ l) in
+        let below : List ℕ = ended (map (number 6) (running (sum + p) (map plateIn g))) in
+        let after : List ℕ = further (map (map (number 6)) (map endsOf (map (map plateIn) gs))) in
+        rw (z, e)
+        (append-assoc (number 6 (sum + p / 2)) (10 ∷ []) (below ++ after) ∙ sym (append-assoc (number 6 (sum + p / 2)) (10 ∷ below) after))
+
+under-none : (G : List (List (List ℕ))) → textUnder 0 G ≡ listText (map endsOf (map (map plateIn) G))
+unfolding textOf
+under-none [] = refl
+under-none (g ∷ gs) = rw (ends-running (map plateIn g))
+
+pub ends-printed : (text : List ℕ) → isList text ≡ true → endLines 0 (map plateIn (linesOf text)) ≡ listText (map endsOf (stacksIn text))
+ends-printed text e =
+    printed-under (linesOf text) 0 (list-some (linesOf text) 1 0 (judged text ∙ e)) ∙ under-none (byStacks (linesOf text))

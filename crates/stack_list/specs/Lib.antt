@@ -1,0 +1,3 @@
+pub mod ListForm
+pub mod Generated
+pub mod Inner

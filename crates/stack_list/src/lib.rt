@@ -1,0 +1,28 @@
+// A list of stacks, read from text, and the ends of their bands printed (document 02, W-205).
+mod printing;
+mod reading;
+
+use reading::NUMBERS;
+ghost use mathlib.Core.Path.{_≡_};
+ghost use Prim.Native.Nat.{_≤_};
+ghost use lib.ListN.{length, take};
+ghost use Rattle.stack_list.specs.Generated.{generated};
+
+// A byte more than the longest list has: 16 stacks of 24 lines of 7 bytes, and 15 blank lines.
+pub const INPUT_BYTES: usize = 2704;
+
+// Room for as many lines as a list has.
+pub const OUTPUT_BYTES: usize = 7 * NUMBERS;
+
+// What the generator prints for a text, at the start of `out`; returns how many bytes.
+pub fn generate(text: &[u8], out: &mut [u8]) -> usize
+    requires { ⌜ 2793 ≤ length (now out) ⌝ }
+    ensures { λ r. ⌜ (r ≤ length (now (out .exit))) × (take r (now (out .exit)) ≡ generated (now (text .entry))) ⌝ }
+{
+    let mut numbers = [0u32; NUMBERS];
+    let n = reading::read_list(text, &mut numbers);
+    if n == 0 {
+        return printing::put_refusal(out);
+    }
+    printing::put_ends(&numbers[..n], out)
+}
