@@ -126,7 +126,6 @@ fn most(call: &str) -> f64 {
     match call {
         APPEND => 1.05,
         _ if CONVERSIONS.contains(&call) => 1.5,
-        _ if LOOKUPS.contains(&call) => 2.0,
         _ => 1.1,
     }
 }

@@ -32,10 +32,13 @@ end-is stack (suc n) = let e = sum-next stack (suc n) in omega arith
 
 -- ---- "the ends rise strictly"
 
+pub plate-sizes : (p : ℕ) → isPlate p ≡ true → (100 ≤ p) × (p ≤ 5000)
+plate-sizes p h = (leb-true 100 p (and-left (leb 100 p) (leb p 5000) h), leb-true p 5000 (and-right (leb 100 p) (leb p 5000) h))
+
 some-plate : (stack : List ℕ) (n : ℕ) → allPlates stack ≡ true → n < length stack → 100 ≤ getD stack n 0
 unfolding allPlates
 some-plate [] n a h = absurd (omega arith)
-some-plate (p ∷ stack) zero a h = leb-true 100 p (and-left (leb 100 p) (leb p 5000) (and-left (isPlate p) (allPlates stack) a))
+some-plate (p ∷ stack) zero a h = plate-sizes p (and-left (isPlate p) (allPlates stack) a) .0
 some-plate (p ∷ stack) (suc n) a h = some-plate stack n (and-right (isPlate p) (allPlates stack) a) (omega arith)
 
 module _ (stack : List ℕ) (ok : isStack stack ≡ true) where

@@ -6,12 +6,12 @@ use mathlib.Core.List.{List, [], _∷_, _++_, map}
 use mathlib.Core.Logic.{_⊎_, inl, inr}
 use Prim.Native.Nat.{ℕ, suc, _+_, _*_, _/_, _≤_, _<_}
 use native.Mathlib.Omega.{arith}
-use borrow.Author.Tests.{leb-true, lt-ltb, ltb-true, eqb-true}
-use lib.Dec.{leb, ltb, eqb}
+use borrow.Author.Tests.{lt-ltb, ltb-true, eqb-true}
+use lib.Dec.{ltb, eqb}
 use lib.ListN.{length, length-append, length-map}
 use Rattle.codec.proofs.Truth.{and-both, and-left, and-right}
 use Rattle.plate.specs.Stack.{isPlate, allPlates, isStack, endsOf}
-use Rattle.plate.proofs.Ends.{running, ends-running}
+use Rattle.plate.proofs.Ends.{plate-sizes, running, ends-running}
 use Rattle.lines.specs.Columns.{fieldIn, isTime}
 use Rattle.answers.specs.Printed.{number}
 use Rattle.answers.proofs.Justified.{length-justified, numeral-few}
@@ -32,9 +32,9 @@ use Rattle.stack_list.specs.ListForm.{
   listText,
 }
 use Rattle.stack_list.specs.Generated.{refusal, generated}
-use Rattle.stack_list.specs.Inner.Turns.{plateOr0, listFrom}
+use Rattle.stack_list.specs.Inner.Turns.{listFrom}
 use Rattle.stack_list.proofs.Cut.{lines-together, stacks-together}
-use Rattle.stack_list.proofs.Judged.{plate-read, stack-sizes, list-sizes, judged}
+use Rattle.stack_list.proofs.Judged.{blank-goes-on, plate-goes-on, stack-sizes, list-sizes, judged}
 use Rattle.stack_list.proofs.ReadBack.{allNumbers, allByStacks, cut-again}
 
 -- ---- numbers that fit their six columns
@@ -88,14 +88,14 @@ plates-small : (ps : List ℕ) → allPlates ps ≡ true → allSmall ps ≡ tru
 unfolding allPlates allSmall
 plates-small [] a = refl
 plates-small (p ∷ ps) a =
-    let m = leb-true p 5000 (and-right (leb 100 p) (leb p 5000) (and-left (isPlate p) (allPlates ps) a)) in
+    let m = plate-sizes p (and-left (isPlate p) (allPlates ps) a) in
     and-both _ _ (lt-ltb p 1000000 (omega arith)) (plates-small ps (and-right (isPlate p) (allPlates ps) a))
 
 ends-small : (ps : List ℕ) (sum : ℕ) → allPlates ps ≡ true → sum + 5000 * length ps < 1000000 → allSmall (running sum ps) ≡ true
 unfolding allPlates allSmall running
 ends-small [] sum a h = refl
 ends-small (p ∷ ps) sum a h =
-    let m = leb-true p 5000 (and-right (leb 100 p) (leb p 5000) (and-left (isPlate p) (allPlates ps) a)) in
+    let m = plate-sizes p (and-left (isPlate p) (allPlates ps) a) in
     and-both _ _ (lt-ltb (sum + p / 2) 1000000 (omega arith))
     (ends-small ps (sum + p) (and-right (isPlate p) (allPlates ps) a) (omega arith))
 
@@ -145,16 +145,12 @@ lines-fit : (ls : List (List ℕ)) (a n : ℕ) → a ≤ 16 → n ≤ 24 → lis
 unfolding listFrom isBlank ended sixColumns
 lines-fit [] a n h k e = omega arith
 lines-fit ([] ∷ ls) a n h k e =
-    let t = and-left (ltb 0 n && ltb a 16) (listFrom (suc a) 0 ls) e in
-    let s = ltb-true 0 n (and-left (ltb 0 n) (ltb a 16) t) in
-    let l = ltb-true a 16 (and-right (ltb 0 n) (ltb a 16) t) in
-    omega (arith, lines-fit ls (suc a) 0 (omega arith) (omega arith) (and-right (ltb 0 n && ltb a 16) (listFrom (suc a) 0 ls) e))
+    let g = blank-goes-on a n ls e in
+    omega (arith, lines-fit ls (suc a) 0 (g .few) (omega arith) (g .rest), g .some)
 lines-fit ((b ∷ l) ∷ ls) a n h k e =
-    let t = and-left (ltb n 24 && ltb 0 (plateOr0 (b ∷ l))) (listFrom a (suc n) ls) e in
-    let s = ltb-true n 24 (and-left (ltb n 24) (ltb 0 (plateOr0 (b ∷ l))) t) in
-    let p = plate-read (b ∷ l) (ltb-true 0 (plateOr0 (b ∷ l)) (and-right (ltb n 24) (ltb 0 (plateOr0 (b ∷ l))) t)) in
-    let six = eqb-true (length (b ∷ l)) 6 (and-left (eqb (length (b ∷ l)) 6) (isTime (fieldIn (b ∷ l))) (p .0)) in
-    let r = lines-fit ls a (suc n) h (omega arith) (and-right (ltb n 24 && ltb 0 (plateOr0 (b ∷ l))) (listFrom a (suc n) ls) e) in
+    let g = plate-goes-on a n ls b l e in
+    let six = eqb-true (length (b ∷ l)) 6 (and-left (eqb (length (b ∷ l)) 6) (isTime (fieldIn (b ∷ l))) (g .six)) in
+    let r = lines-fit ls a (suc n) h (g .low) (g .rest) in
     omega (arith, length-append (b ∷ l) (10 ∷ ended ls))
 
 longest : (text : List ℕ) → isList text ≡ true → length text ≤ 2703

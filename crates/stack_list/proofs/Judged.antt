@@ -10,6 +10,7 @@ use lib.Dec.{leb, ltb}
 use lib.ListN.{length, length-map}
 use Rattle.codec.proofs.Truth.{and-both, and-left, and-right}
 use Rattle.plate.specs.Stack.{isPlate, allPlates, isStack}
+use Rattle.plate.proofs.Ends.{plate-sizes}
 use Rattle.stack_list.specs.ListForm.{linesOf, isBlank, atTop, byStacks, sixColumns, plateIn, inForm, stacksIn, allStacks, inSizes, isList}
 use Rattle.stack_list.specs.Inner.Turns.{plateOr0, listFrom}
 use Rattle.stack_list.proofs.Cut.{some-stack}
@@ -33,12 +34,45 @@ module _ (line : List ℕ) where
       go true e false f h = absurd (omega arith)
       go false e t f h = absurd (omega arith)
 
-  pub plate-least : isPlate (plateIn line) ≡ true → 100 ≤ plateIn line
-  plate-least p = leb-true 100 (plateIn line) (and-left (leb 100 (plateIn line)) (leb (plateIn line) 5000) p)
-
   plate-some : sixColumns line ≡ true → isPlate (plateIn line) ≡ true → 0 < plateOr0 line
   unfolding plateOr0
-  plate-some s p = let l = plate-least p in rw (s, p) (omega arith)
+  plate-some s p = let l = plate-sizes (plateIn line) p in rw (s, p) (omega arith)
+
+-- ---- a line that a list goes on with
+
+pub record BlankGoesOn (stacks plates : ℕ) (lines : List (List ℕ)) : Type 0 where
+  pub some : 0 < plates
+  pub few : stacks < 16
+  pub rest : listFrom (suc stacks) 0 lines ≡ true
+
+pub record PlateGoesOn (stacks plates : ℕ) (line : List ℕ) (lines : List (List ℕ)) : Type 0 where
+  pub low : plates < 24
+  pub six : sixColumns line ≡ true
+  pub sized : isPlate (plateIn line) ≡ true
+  pub rest : listFrom stacks (suc plates) lines ≡ true
+
+module _ (a n : ℕ) (ls : List (List ℕ)) where
+  pub blank-goes-on : listFrom a n ([] ∷ ls) ≡ true → BlankGoesOn a n ls
+  unfolding listFrom isBlank
+  blank-goes-on e =
+      let t = and-left (ltb 0 n && ltb a 16) (listFrom (suc a) 0 ls) e in
+      record {
+        some = ltb-true 0 n (and-left (ltb 0 n) (ltb a 16) t);
+        few = ltb-true a 16 (and-right (ltb 0 n) (ltb a 16) t);
+        rest = and-right (ltb 0 n && ltb a 16) (listFrom (suc a) 0 ls) e;
+      }
+
+  pub plate-goes-on : (b : ℕ) (l : List ℕ) → listFrom a n ((b ∷ l) ∷ ls) ≡ true → PlateGoesOn a n (b ∷ l) ls
+  unfolding listFrom isBlank
+  plate-goes-on b l e =
+      let t = and-left (ltb n 24 && ltb 0 (plateOr0 (b ∷ l))) (listFrom a (suc n) ls) e in
+      let p = plate-read (b ∷ l) (ltb-true 0 (plateOr0 (b ∷ l)) (and-right (ltb n 24) (ltb 0 (plateOr0 (b ∷ l))) t)) in
+      record {
+        low = ltb-true n 24 (and-left (ltb n 24) (ltb 0 (plateOr0 (b ∷ l))) t);
+        six = p .0;
+        sized = p .1 .0;
+        rest = and-right (ltb n 24 && ltb 0 (plateOr0 (b ∷ l))) (listFrom a (suc n) ls) e;
+      }
 
 -- ---- a stack
 
@@ -140,17 +174,13 @@ list-fits [] a n h k e =
     let l = ltb-true 0 n e in
     (refl, record { few = omega arith; some = omega arith; most = omega arith; sized = refl; rest = refl })
 list-fits ([] ∷ ls) a n h k e =
-    let t = and-left (ltb 0 n && ltb a 16) (listFrom (suc a) 0 ls) e in
-    let s = ltb-true 0 n (and-left (ltb 0 n) (ltb a 16) t) in
-    let l = ltb-true a 16 (and-right (ltb 0 n) (ltb a 16) t) in
-    let r = list-fits ls (suc a) 0 (omega arith) (omega arith) (and-right (ltb 0 n && ltb a 16) (listFrom (suc a) 0 ls) e) in
-    (r .0, blank-fits a n (byStacks ls) s k (r .1))
+    let g = blank-goes-on a n ls e in
+    let r = list-fits ls (suc a) 0 (g .few) (omega arith) (g .rest) in
+    (r .0, blank-fits a n (byStacks ls) (g .some) k (r .1))
 list-fits ((b ∷ l) ∷ ls) a n h k e =
-    let t = and-left (ltb n 24 && ltb 0 (plateOr0 (b ∷ l))) (listFrom a (suc n) ls) e in
-    let s = ltb-true n 24 (and-left (ltb n 24) (ltb 0 (plateOr0 (b ∷ l))) t) in
-    let p = plate-read (b ∷ l) (ltb-true 0 (plateOr0 (b ∷ l)) (and-right (ltb n 24) (ltb 0 (plateOr0 (b ∷ l))) t)) in
-    let r = list-fits ls a (suc n) h (omega arith) (and-right (ltb n 24 && ltb 0 (plateOr0 (b ∷ l))) (listFrom a (suc n) ls) e) in
-    (and-both _ _ (p .0) (r .0), plate-fits a n (b ∷ l) (byStacks ls) (p .1 .0) (r .1))
+    let g = plate-goes-on a n ls b l e in
+    let r = list-fits ls a (suc n) h (g .low) (g .rest) in
+    (and-both _ _ (g .six) (r .0), plate-fits a n (b ∷ l) (byStacks ls) (g .sized) (r .1))
 
 fits-list : (ls : List (List ℕ)) (a n : ℕ) → inForm ls ≡ true → Fits a n (byStacks ls) → listFrom a n ls ≡ true
 unfolding listFrom inForm byStacks isBlank

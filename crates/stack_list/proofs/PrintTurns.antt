@@ -1,27 +1,26 @@
 -- The turns of the loop that prints the ends, and what all its lines are: the ends of the stacks that the text lists. Assumes nothing.
 use mathlib.Core.Path.{_≡_, refl, sym, ap, _∙_}
-use mathlib.Core.Bool.{Bool, true, false, cond, _&&_}
+use mathlib.Core.Bool.{Bool, true, false, cond}
 use mathlib.Core.List.{List, [], _∷_, _++_, map, append-assoc, append-nil}
 use Prim.Native.Nat.{ℕ, suc, _+_, _-_, _*_, _/_, _≤_, _<_}
 use native.Mathlib.Omega.{arith}
-use borrow.Author.Tests.{ltb-true, eq-eqb, ne-eqb}
-use lib.Dec.{ltb, eqb}
+use borrow.Author.Tests.{eq-eqb, ne-eqb}
+use lib.Dec.{eqb}
 use lib.ListN.{length, take, drop, getD, set, length-append, length-set, drop-of-length-le}
 use lib.Seq.{drop-cons, take-at, length-take-le}
 use Rattle.codec.specs.Area.{splice, repeated}
 use Rattle.codec.proofs.Areas.{splice-next, length-splice}
-use Rattle.codec.proofs.Truth.{and-left, and-right}
 use Rattle.plate.specs.Stack.{endsOf}
-use Rattle.plate.proofs.Ends.{running, ends-running}
+use Rattle.plate.proofs.Ends.{plate-sizes, running, ends-running}
 use Rattle.lines.specs.Columns.{readFrom}
 use Rattle.answers.specs.Printed.{number, justified, digits, digitsWithin}
 use Rattle.answers.proofs.Justified.{length-justified}
 use Rattle.answers.proofs.Printing.{byte-stored}
 use Rattle.stack_list.specs.ListForm.{linesOf, isBlank, atTop, byStacks, plateIn, isList, stacksIn, ended, further, textOf, listText}
 use Rattle.stack_list.specs.Generated.{refusal}
-use Rattle.stack_list.specs.Inner.Turns.{plateOr0, listFrom, endLine, sumOn, endLines}
+use Rattle.stack_list.specs.Inner.Turns.{listFrom, endLine, sumOn, endLines}
 use Rattle.stack_list.proofs.Cut.{some-stack}
-use Rattle.stack_list.proofs.Judged.{plate-read, plate-least, judged}
+use Rattle.stack_list.proofs.Judged.{blank-goes-on, plate-goes-on, judged}
 
 -- ---- one line
 
@@ -135,14 +134,12 @@ EachSome ([] ∷ lines) = EachSome lines
 EachSome ((b ∷ line) ∷ lines) = (0 < plateIn (b ∷ line)) × EachSome lines
 
 list-some : (ls : List (List ℕ)) (a n : ℕ) → listFrom a n ls ≡ true → EachSome ls
-unfolding listFrom isBlank
 list-some [] a n e = tt
-list-some ([] ∷ ls) a n e = list-some ls (suc a) 0 (and-right (ltb 0 n && ltb a 16) (listFrom (suc a) 0 ls) e)
+list-some ([] ∷ ls) a n e = list-some ls (suc a) 0 (blank-goes-on a n ls e .rest)
 list-some ((b ∷ l) ∷ ls) a n e =
-    let t = and-left (ltb n 24 && ltb 0 (plateOr0 (b ∷ l))) (listFrom a (suc n) ls) e in
-    let p = plate-read (b ∷ l) (ltb-true 0 (plateOr0 (b ∷ l)) (and-right (ltb n 24) (ltb 0 (plateOr0 (b ∷ l))) t)) in
-    let m = plate-least (b ∷ l) (p .1 .0) in
-    (omega arith, list-some ls a (suc n) (and-right (ltb n 24 && ltb 0 (plateOr0 (b ∷ l))) (listFrom a (suc n) ls) e))
+    let g = plate-goes-on a n ls b l e in
+    let m = plate-sizes (plateIn (b ∷ l)) (g .sized) in
+    (omega arith, list-some ls a (suc n) (g .rest))
 
 -- the ends of lines by stacks, the first stack under plates of this sum
 abbrev textUnder : ℕ → List (List (List ℕ)) → List ℕ
