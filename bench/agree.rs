@@ -4,9 +4,12 @@ use crate::gym::{Gym, Random};
 use crate::in_place::InPlace;
 use crate::lift::{Contender, Lift, RECORD_BYTES};
 use crate::proved::Proved;
-use plain::{plate_of, plate_on, Ground, OldState, State, Window, LOAD_MAX, LOAD_MIN, SLOT_BYTES, TIME_MAX};
+use crate::service_page::ServicePage;
+use plain::{plate_of, plate_on, Counts, Ground, OldState, State, Window, LOAD_MAX, LOAD_MIN, SLOT_BYTES, TIME_MAX};
 
 const TRIALS: usize = 4_000;
+/// What a stuck cell shows: both ends of plate 20, just beyond the stack and far beyond it.
+const STUCK: [i32; 4] = [9_751, 10_250, 10_251, LOAD_MAX];
 
 /// How often each number was answered, 0 first.
 type Seen = [usize; 15];
@@ -21,6 +24,7 @@ pub fn check() -> Seen {
     let mut seen = [0; 15];
     for slots in [2, 3, 5] {
         let mut lifts = Gym::new(slots).lifts(slots as usize * 400);
+        lifts.iter_mut().step_by(16).for_each(|lift| lift.load = STUCK[random.within(0, 3) as usize]);
         let mut store = Proved::new(slots);
         lifts.truncate(slots as usize * 330 + random.within(0, 300) as usize);
         store.append_all(&lifts);
@@ -156,12 +160,22 @@ fn same_answers(random: &mut Random, store: &Proved, plain: &InPlace, last: u64,
     assert_eq!(proved, number(found), "numbers differ");
     assert!(rows == plain_rows, "rows differ");
     assert_eq!(u64::from_le_bytes(answer) as usize, found.unwrap_or(0));
-    let mut answer = [0; 168];
+    seen[usize::from(proved)] += 1;
+    same_counts(store, plain, t1, t2, seen);
+}
+
+/// A tally and its page; a refusal leaves the area of either as it was.
+fn same_counts(store: &Proved, plain: &InPlace, t1: u64, t2: u64, seen: &mut Seen) {
+    let mut answer = [0; size_of::<Counts>()];
     let tallied = store.by_plate(t1, t2, &mut answer);
     let counts = plain.state.tally(&plain.nand, &plain.nor, plain.slots, t1, t2);
     assert_eq!(tallied, number(counts), "numbers differ");
-    let counts: Vec<u8> = counts.unwrap_or([0; 21]).iter().flat_map(|n| n.to_le_bytes()).collect();
+    let counts: Vec<u8> = counts.unwrap_or_default().iter().flat_map(|n| n.to_le_bytes()).collect();
     assert!(answer[..] == counts, "tallies differ");
-    seen[usize::from(proved)] += 1;
+    let [mut page, mut plain_page] = [[9; size_of::<ServicePage>()]; 2];
+    let paged = store.page(t1, t2, &mut page);
+    assert_eq!(paged, number(plain.page(t1, t2, &mut plain_page)), "numbers differ");
+    assert!(page == plain_page, "pages differ");
     seen[usize::from(tallied)] += 1;
+    seen[usize::from(paged)] += 1;
 }

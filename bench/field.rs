@@ -41,7 +41,7 @@ fn lent(other: &mut Other) -> Option<&mut dyn Contender> {
 pub struct Field {
     pub slots: u64,
     pub proved: Proved,
-    in_place: InPlace,
+    pub in_place: InPlace,
     sqlite: Other,
     scan: Scan,
     lmdb: Other,

@@ -1,6 +1,7 @@
 //! The in-place implementation with its own state and chips.
 use crate::lift::{Contender, Lift};
-use plain::{Ground, State, Window, NOR_BYTES, SLOT_BYTES};
+use crate::service_page::{lay_out, ServicePage};
+use plain::{Counts, Ground, State, Window, NOR_BYTES, SLOT_BYTES};
 
 #[derive(Clone)]
 pub struct InPlace {
@@ -22,6 +23,12 @@ impl InPlace {
         let InPlace { state, nand, nor, slots } = self;
         state.append(nand, nor, *slots, lift.time, lift.load, &lift.note)
     }
+
+    pub fn page(&self, t1: u64, t2: u64, page: &mut ServicePage) -> Result<(), Ground> {
+        let counts = self.state.tally(&self.nand, &self.nor, self.slots, t1, t2)?;
+        lay_out(t1, t2, &counts, page);
+        Ok(())
+    }
 }
 
 impl Contender for InPlace {
@@ -33,7 +40,7 @@ impl Contender for InPlace {
         self.state.search(&self.nand, &self.nor, self.slots, window, rows).expect("a search")
     }
 
-    fn tally(&mut self, t1: u64, t2: u64) -> [u64; 21] {
+    fn tally(&mut self, t1: u64, t2: u64) -> Counts {
         self.state.tally(&self.nand, &self.nor, self.slots, t1, t2).expect("a tally")
     }
 }

@@ -1,5 +1,5 @@
 //! What all contenders share: a lift, a record of 32 bytes, and the calls that are timed.
-use plain::Window;
+use plain::{Counts, Window};
 
 pub const RECORD_BYTES: usize = plain::RECORD_BYTES;
 
@@ -23,7 +23,7 @@ pub trait Contender {
     fn append(&mut self, lift: &Lift);
     /// The rows found go to the start of the area, oldest first; their number is handed back.
     fn search(&mut self, window: &Window, rows: &mut [u8]) -> usize;
-    fn tally(&mut self, t1: u64, t2: u64) -> [u64; 21];
+    fn tally(&mut self, t1: u64, t2: u64) -> Counts;
     /// Only the last so many lifts are still retained.
     fn keep_last(&mut self, _lifts: usize) {}
     /// How questions are gone about, by a contender that has a planner.

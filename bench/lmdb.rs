@@ -1,7 +1,7 @@
 //! LMDB in memory: one tree in order of time; a cursor goes from t1 to t2 and looks at the loads.
 use crate::key::{highest, lowest, time_of, Keys};
 use crate::lift::{Contender, Lift, RECORD_BYTES};
-use plain::{plate_of, Window};
+use plain::{plate_of, Counts, Window};
 use std::ffi::{c_char, c_int, c_uint, c_void, CString};
 use std::ptr::{null, null_mut};
 
@@ -178,8 +178,8 @@ impl Contender for Lmdb {
         found
     }
 
-    fn tally(&mut self, t1: u64, t2: u64) -> [u64; 21] {
-        let mut counts = [0; 21];
+    fn tally(&mut self, t1: u64, t2: u64) -> Counts {
+        let mut counts = Counts::default();
         self.scan(t1, t2, |_, value| counts[plate_of(load_of(value)).expect("a plate")] += 1);
         counts
     }

@@ -15,6 +15,7 @@ mod proved;
 mod questions;
 mod report;
 mod scan;
+mod service_page;
 #[cfg(sqlite)]
 mod sqlite;
 #[cfg(sqlite)]
@@ -23,11 +24,14 @@ mod stack;
 
 use carried::{backward, Carried, OldStore};
 use field::Field;
-use measure::{append_ratio, appends, conversions, lookups, searches, tallies, Line};
+use measure::{append_ratio, appends, conversions, lookups, page, searches, tallies, Line};
+use plain::Counts;
 use proved::Proved;
 use questions::{everything, five_plates, Questions};
+use service_page::ServicePage;
 
 const SIZES: [u64; 3] = [2, 64, 4_096];
+const PAGED_SIZE: u64 = 64;
 const CONVERTED_SIZES: [u64; 2] = [64, 4_096];
 
 fn measured(slots: u64) -> (Field, Vec<Line>) {
@@ -46,7 +50,7 @@ fn measured(slots: u64) -> (Field, Vec<Line>) {
         "S = {slots}: {} lifts retained; chips and state of (a) are the store's, byte for byte.",
         field.retained()
     );
-    let lines = vec![
+    let mut lines = vec![
         append,
         searches(&mut field, report::RECENT_DAY, &recent),
         searches(&mut field, report::ANY_DAY, &any),
@@ -55,6 +59,9 @@ fn measured(slots: u64) -> (Field, Vec<Line>) {
         tallies(&mut field, report::TALLY_DAY, &any),
         tallies(&mut field, report::TALLY_ALL, &whole[..1]),
     ];
+    if slots == PAGED_SIZE {
+        lines.push(page(&field, report::PAGE_ALL, &whole[0]));
+    }
     (field, lines)
 }
 
@@ -66,7 +73,7 @@ fn depths() -> Vec<(&'static str, usize)> {
     let mut rows = vec![0; field.rows.len()];
     let mut store = field.proved.clone();
     let append = stack::depth(|| assert!(lifts.iter().all(|lift| store.put(lift) == 0)));
-    let (mut answer, mut counts) = ([0; 8], [0; 168]);
+    let (mut answer, mut counts, mut page) = ([0; 8], [0; size_of::<Counts>()], [0; size_of::<ServicePage>()]);
     let old: &Proved = &field.proved;
     let mut closing = old.clone();
     let mut dropping = old.clone();
@@ -79,6 +86,7 @@ fn depths() -> Vec<(&'static str, usize)> {
         ("drop", stack::depth(|| assert_eq!(dropping.drop_oldest(), 0))),
         ("search", stack::depth(|| assert_eq!(old.find(&window, &mut rows, &mut answer), 0))),
         ("tally", stack::depth(|| assert_eq!(old.by_plate(window.t1, window.t2, &mut counts), 0))),
+        ("page", stack::depth(|| assert_eq!(old.page(window.t1, window.t2, &mut page), 0))),
         (
             "plate, on either stack",
             stack::depth(|| (0..2).for_each(|at| assert_eq!(Proved::plate(at, 2_500, &mut answer), 0))),
@@ -92,7 +100,9 @@ fn depths() -> Vec<(&'static str, usize)> {
 fn main() {
     let symbols = std::env::args().nth(1).unwrap_or_default();
     let seen = agree::check();
-    println!("Store and (a) give the same numbers, bytes and rows on damaged chips, odd states and odd arguments;");
+    println!(
+        "Store and (a) give the same numbers, bytes, rows and pages on damaged chips, odd states and odd arguments;"
+    );
     println!("answers by number, 0 first: {seen:?}.");
     let [(mut small, first), (_, second), (mut large, third)] = SIZES.map(measured);
     let carried = CONVERTED_SIZES.map(|slots| conversions(slots, report::CONVERSIONS));

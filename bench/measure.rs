@@ -5,6 +5,7 @@ use crate::field::{Field, CONTENDERS};
 use crate::gym::Gym;
 use crate::lift::{Contender, Lift};
 use crate::proved::Proved;
+use crate::service_page::ServicePage;
 use plain::{plate_on, OldState, State, Window};
 use std::hint::black_box;
 use std::time::{Duration, Instant};
@@ -104,6 +105,18 @@ pub fn tallies(field: &mut Field, call: &'static str, windows: &[Window]) -> Lin
     let found = field.check_tallies(windows);
     let rounds = repeated(field, windows, |contender, _| contender.tally_all(windows));
     Line { slots: Some(field.slots), call, found: found as f64 / windows.len() as f64, rounds }
+}
+
+/// The page of a window, by the store and by (a).
+pub fn page(field: &Field, call: &'static str, window: &Window) -> Line {
+    let Window { t1, t2, .. } = *window;
+    let [mut page, mut plain_page] = [[0; size_of::<ServicePage>()]; 2];
+    let rounds = in_turns(|by| match by {
+        Side::Store => assert_eq!(field.proved.page(t1, t2, &mut page), 0),
+        Side::InPlace => field.in_place.page(t1, t2, &mut plain_page).expect("a page"),
+    });
+    assert!(page == plain_page, "pages differ");
+    Line { slots: Some(field.slots), call, found: field.retained() as f64, rounds }
 }
 
 /// Forward and backward of a filled store, by the store and by (a).

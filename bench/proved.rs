@@ -1,6 +1,7 @@
 //! The store over its C interface, `store_abi`.
 use crate::lift::{Contender, Lift};
-use plain::{Window, NOR_BYTES, SLOT_BYTES, STATE_BYTES, TIME_MAX};
+use crate::service_page::ServicePage;
+use plain::{Counts, Window, NOR_BYTES, SLOT_BYTES, STATE_BYTES, TIME_MAX};
 
 extern "C" {
     fn store_format(
@@ -72,8 +73,24 @@ extern "C" {
         answer: *mut u8,
         answer_len: usize,
     ) -> u8;
+    fn store_page(
+        state: *const u8,
+        state_len: usize,
+        nand: *const u8,
+        nand_len: usize,
+        nor: *const u8,
+        nor_len: usize,
+        slots: u64,
+        t1: u64,
+        t2: u64,
+        page: *mut u8,
+        page_len: usize,
+    ) -> u8;
     fn store_plate(place: u64, load: i32, answer: *mut u8, answer_len: usize) -> u8;
 }
+
+/// A tally's answer area.
+pub type CountsArea = [u8; size_of::<Counts>()];
 
 /// State and chips as the console holds them; each call hands back its number.
 #[derive(Clone)]
@@ -171,7 +188,7 @@ impl Proved {
         }
     }
 
-    pub fn by_plate(&self, t1: u64, t2: u64, answer: &mut [u8; 168]) -> u8 {
+    pub fn by_plate(&self, t1: u64, t2: u64, answer: &mut CountsArea) -> u8 {
         let Proved { state, nand, nor, slots } = self;
         unsafe {
             store_tally(
@@ -186,6 +203,25 @@ impl Proved {
                 t2,
                 answer.as_mut_ptr(),
                 answer.len(),
+            )
+        }
+    }
+
+    pub fn page(&self, t1: u64, t2: u64, page: &mut ServicePage) -> u8 {
+        let Proved { state, nand, nor, slots } = self;
+        unsafe {
+            store_page(
+                state.as_ptr(),
+                STATE_BYTES,
+                nand.as_ptr(),
+                nand.len(),
+                nor.as_ptr(),
+                nor.len(),
+                *slots,
+                t1,
+                t2,
+                page.as_mut_ptr(),
+                page.len(),
             )
         }
     }
@@ -211,8 +247,8 @@ impl Contender for Proved {
         u64::from_le_bytes(answer) as usize
     }
 
-    fn tally(&mut self, t1: u64, t2: u64) -> [u64; 21] {
-        let mut answer = [0; 168];
+    fn tally(&mut self, t1: u64, t2: u64) -> Counts {
+        let mut answer = [0; size_of::<Counts>()];
         assert_eq!(self.by_plate(t1, t2, &mut answer), 0, "the store refuses a tally");
         std::array::from_fn(|i| u64::from_le_bytes(answer[8 * i..8 * i + 8].try_into().unwrap()))
     }

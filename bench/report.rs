@@ -9,6 +9,7 @@ pub const WHOLE_LOG: &str = "search, whole log";
 pub const ABSENT: &str = "search, absent load";
 pub const TALLY_DAY: &str = "tally, any day";
 pub const TALLY_ALL: &str = "tally, whole log";
+pub const PAGE_ALL: &str = "page, whole log";
 pub const CONVERSIONS: [&str; 2] = ["forward", "backward"];
 /// By the stack's place.
 pub const LOOKUPS: [&str; 2] = ["plate, twenty of 500", "plate, four of 250 over sixteen of 500"];

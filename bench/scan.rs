@@ -1,6 +1,6 @@
 //! A plain array of all retained lifts, scanned from end to end.
 use crate::lift::{Contender, Lift, RECORD_BYTES};
-use plain::{plate_of, Window};
+use plain::{plate_of, Counts, Window};
 
 #[derive(Default)]
 pub struct Scan {
@@ -30,8 +30,8 @@ impl Contender for Scan {
         found
     }
 
-    fn tally(&mut self, t1: u64, t2: u64) -> [u64; 21] {
-        let mut counts = [0; 21];
+    fn tally(&mut self, t1: u64, t2: u64) -> Counts {
+        let mut counts = Counts::default();
         for lift in &self.lifts {
             if t1 <= lift.time && lift.time <= t2 {
                 counts[plate_of(lift.load).expect("a plate")] += 1;

@@ -2,7 +2,7 @@
 use crate::key::{highest, lowest, time_of, Keys};
 use crate::lift::{Contender, Lift, RECORD_BYTES};
 use crate::sqlite_calls::*;
-use plain::{plate_of, Window};
+use plain::{plate_of, Counts, Window};
 use std::ffi::{c_int, c_void};
 
 /// `moment` is the lift's key: its time and its number among the lifts at that time. The table is a tree by it, with whole rows,
@@ -23,8 +23,7 @@ const TALLY: &str = "SELECT plates(load) FROM lifts WHERE moment BETWEEN ?1 AND 
 const FORGET: &str =
     "DELETE FROM lifts WHERE moment < (SELECT moment FROM lifts ORDER BY moment DESC LIMIT 1 OFFSET ?1)";
 
-type Counts = [u64; 21];
-const COUNTS_BYTES: c_int = 168;
+const COUNTS_BYTES: c_int = size_of::<Counts>() as c_int;
 
 pub struct Sqlite {
     db: Db,
@@ -102,7 +101,7 @@ impl Contender for Sqlite {
     fn tally(&mut self, t1: u64, t2: u64) -> Counts {
         let statement = self.tally;
         statement.bind(&[lowest(t1) as i64, highest(t2) as i64]);
-        let mut counts = [0; 21];
+        let mut counts = Counts::default();
         statement.run(|| unsafe {
             if sqlite3_column_bytes(statement.0, 0) == COUNTS_BYTES {
                 counts = sqlite3_column_blob(statement.0, 0).cast::<Counts>().read_unaligned();

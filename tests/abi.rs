@@ -31,6 +31,10 @@ mod c {
             state: *const u8, state_len: usize, nand: *const u8, nand_len: usize, nor: *const u8, nor_len: usize,
             slots: u64, t1: u64, t2: u64, answer: *mut u8, answer_len: usize,
         ) -> u8;
+        pub fn store_page(
+            state: *const u8, state_len: usize, nand: *const u8, nand_len: usize, nor: *const u8, nor_len: usize,
+            slots: u64, t1: u64, t2: u64, page: *mut u8, page_len: usize,
+        ) -> u8;
         pub fn store_plate(place: u64, load: i32, answer: *mut u8, answer_len: usize) -> u8;
         pub fn store_forward(
             old: *const u8, old_len: usize, nand: *const u8, nand_len: usize, nor: *const u8, nor_len: usize,
@@ -90,13 +94,13 @@ impl Store for Library {
         let mut state = Lent::new(&areas.state);
         let mut nor = Lent::new(&areas.nor);
         let mut rows = Lent::new(&outputs.rows);
-        let mut values = Lent::new(&outputs.values);
-        let number = enter(call, state.area(), &mut areas.nand, nor.area(), rows.area(), values.area());
+        let mut answer = Lent::new(&outputs.answer);
+        let number = enter(call, state.area(), &mut areas.nand, nor.area(), rows.area(), answer.area());
         let whole = [
             state.hand_back(&mut areas.state),
             nor.hand_back(&mut areas.nor),
             rows.hand_back(&mut outputs.rows),
-            values.hand_back(&mut outputs.values),
+            answer.hand_back(&mut outputs.answer),
         ];
         number_if(whole, number)
     }
@@ -166,12 +170,12 @@ pub fn enter_carry(into: Form, slots: u64, first: LentStore, second: LentStore) 
 }
 
 /// Calls the library with areas of whatever lengths.
-pub fn enter(call: &Call, state: &mut [u8], nand: &mut [u8], nor: &mut [u8], rows: &mut [u8], values: &mut [u8]) -> u8 {
+pub fn enter(call: &Call, state: &mut [u8], nand: &mut [u8], nor: &mut [u8], rows: &mut [u8], answer: &mut [u8]) -> u8 {
     let (st, st_len) = (state.as_mut_ptr(), state.len());
     let (na, na_len) = (nand.as_mut_ptr(), nand.len());
     let (no, no_len) = (nor.as_mut_ptr(), nor.len());
     let (ro, ro_len) = (rows.as_mut_ptr(), rows.len());
-    let (va, va_len) = (values.as_mut_ptr(), values.len());
+    let (an, an_len) = (answer.as_mut_ptr(), answer.len());
     // Sound if the library keeps to the areas whose lengths it is told, which is what is under test.
     unsafe {
         match *call {
@@ -183,12 +187,15 @@ pub fn enter(call: &Call, state: &mut [u8], nand: &mut [u8], nor: &mut [u8], row
             Call::Drop { slots } => c::store_drop(st, st_len, na, na_len, no, no_len, slots),
             Call::Search { slots, window: Window { t1, t2, k1, k2 }, .. } => {
                 let search = c::store_search;
-                search(st, st_len, na, na_len, no, no_len, slots, t1, t2, k1, k2, ro, ro_len, va, va_len)
+                search(st, st_len, na, na_len, no, no_len, slots, t1, t2, k1, k2, ro, ro_len, an, an_len)
             }
             Call::Tally { slots, t1, t2 } => {
-                c::store_tally(st, st_len, na, na_len, no, no_len, slots, t1, t2, va, va_len)
+                c::store_tally(st, st_len, na, na_len, no, no_len, slots, t1, t2, an, an_len)
             }
-            Call::Plate { place, load } => c::store_plate(place, load, va, va_len),
+            Call::Page { slots, t1, t2 } => {
+                c::store_page(st, st_len, na, na_len, no, no_len, slots, t1, t2, an, an_len)
+            }
+            Call::Plate { place, load } => c::store_plate(place, load, an, an_len),
         }
     }
 }

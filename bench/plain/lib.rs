@@ -18,7 +18,7 @@ mod state;
 mod tree;
 
 pub use form::{OldState, OLD_STATE_BYTES};
-pub use plate::{plate_of, plate_on};
+pub use plate::{plate_of, plate_on, Counts};
 pub use query::Window;
 pub use state::{Pointer, State, STATE_BYTES};
 

@@ -2,7 +2,7 @@
 use crate::bytes::{slot, u32_at};
 use crate::header::Header;
 use crate::matches::{Matches, Segment};
-use crate::plate::plate_of_code;
+use crate::plate::{plate_of_code, Counts, PLATES};
 use crate::state::{Pointer, State};
 use crate::{bloom, load_ok, stored, Ground, LOAD_MAX, LOAD_MIN, RECORD_BYTES, TIME_MAX};
 
@@ -62,11 +62,11 @@ impl State {
     }
 
     /// How many lifts of the time window belong to each plate.
-    pub fn tally(&self, nand: &[u8], nor: &[u8], slots: u64, t1: u64, t2: u64) -> Result<[u64; 21], Ground> {
+    pub fn tally(&self, nand: &[u8], nor: &[u8], slots: u64, t1: u64, t2: u64) -> Result<Counts, Ground> {
         self.check(nand, nor, slots)?;
         let asked = Window { t1, t2, k1: LOAD_MIN, k2: LOAD_MAX }.check()?;
         let log = Log { state: self, nand, nor, slots };
-        let mut counts = [0; 21];
+        let mut counts = [0; PLATES];
         log.visit(&asked, |segment, matches| {
             for place in matches {
                 counts[plate_of_code(u32_at(segment.record(place), 8))] += 1;

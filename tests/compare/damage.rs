@@ -1,6 +1,6 @@
 //! Damaged stores: bytes of headers, pointers, buckets, records, pages and NOR changed between calls.
 use crate::bases;
-use crate::habits::Habits;
+use crate::habits::{tally_or_page, Habits};
 use crate::judge::Step;
 use crate::mids;
 use crate::random::Random;
@@ -45,7 +45,10 @@ pub fn call_after_damage(trial: &mut Trial, habits: &mut Habits) -> Step {
         0 => trial.call(Call::Drop { slots }),
         1 => trial.call(Call::Close { slots }),
         2 => habits.search_all(trial),
-        3 => trial.call(Call::Tally { slots, t1: 0, t2: LAST_TIME }),
+        3 => {
+            let call = tally_or_page(trial, slots, 0, LAST_TIME);
+            trial.call(call)
+        }
         4..=6 => habits.ask(trial),
         7 => habits.one_call(trial),
         _ => habits.append(trial),

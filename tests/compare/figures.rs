@@ -19,13 +19,15 @@ pub fn print_numbers<'a, const N: usize>(rows: impl Iterator<Item = (&'static st
     }
 }
 
-/// What appends brought about in the paper log: closes, drops and times that repeat.
+/// What calls brought about in the paper log: closes, drops, times that repeat and lifts beyond the stack.
 #[derive(Default)]
 pub struct Turns {
     closes_at_320_lifts: u64,
     closes_for_bucket_36: u64,
     forced_drops: u64,
     repeated_times: u64,
+    /// Tallies and pages that count a lift on the last plate.
+    beyond_the_stack: u64,
 }
 
 impl Turns {
@@ -34,6 +36,9 @@ impl Turns {
         self.closes_for_bucket_36 += u64::from(said.closed == Some(Closed::ForBucket36));
         self.forced_drops += u64::from(matches!(call, Call::Append { .. }) && said.gone.is_some());
         self.repeated_times += u64::from(said.repeats_time);
+        if let Call::Tally { .. } | Call::Page { .. } = call {
+            self.beyond_the_stack += u64::from(said.values.last().is_some_and(|count| *count > 0));
+        }
     }
 
     pub fn print(&self) {
@@ -41,6 +46,7 @@ impl Turns {
             "closes at 320 lifts {}, closes for bucket 36 {}, forced drops {}, lifts at the time of the one before {}",
             self.closes_at_320_lifts, self.closes_for_bucket_36, self.forced_drops, self.repeated_times
         );
+        println!("tallies and pages with a lift beyond the stack {}", self.beyond_the_stack);
     }
 }
 
@@ -55,6 +61,7 @@ const NUMBERS_OF_CALLS: [&[usize]; CALLS] = [
     &[0, 1, 2, 3, 9, 11],
     &[0, 1, 2, 3, 9],
     &[0, 1, 2, 3, 4, 5, 6, 10, 12],
+    &[0, 1, 2, 3, 4, 6, 10],
     &[0, 1, 2, 3, 4, 6, 10],
     &[0, 5, 15],
     &[0, 1, 2, 3, 10, 13],

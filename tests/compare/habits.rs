@@ -7,6 +7,7 @@ use model::limits::{GREATEST_LOAD, LAST_TIME, LEAST_LOAD};
 use model::stacks::{carried, ends};
 use script::calls::{Call, Window, ROW_BYTES};
 use script::command::Field;
+use script::form::Form;
 
 pub struct Habits {
     pub slots: u64,
@@ -87,13 +88,16 @@ impl Habits {
         trial.call(Call::Close { slots: self.slots })
     }
 
-    /// A search, now and then a tally or a plate.
+    /// A search, now and then a tally, a page or a plate.
     pub fn ask(&mut self, trial: &mut Trial) -> Step {
         let slots = self.slots;
         let window = self.window(&mut trial.random);
-        match trial.random.below(8) {
-            0 => trial.call(Call::Tally { slots, t1: window.t1, t2: window.t2 }),
-            1 => {
+        match trial.random.below(9) {
+            0 | 1 => {
+                let call = tally_or_page(trial, slots, window.t1, window.t2);
+                trial.call(call)
+            }
+            2 => {
                 let call = lookup(&mut trial.random);
                 trial.call(call)
             }
@@ -174,12 +178,12 @@ impl Habits {
             4 => window.k1 = load,
             _ => window.k2 = load,
         }
-        match random.below(8) {
+        match random.below(9) {
             0 => Call::Close { slots },
             1 => Call::Drop { slots },
             2 | 3 => Call::Append { slots, time, load, note: random.note() },
-            4 => Call::Tally { slots, t1: window.t1, t2: window.t2 },
-            5 => Call::Plate { place: any_place(random), load },
+            4 | 5 => tally_or_page(trial, slots, window.t1, window.t2),
+            6 => Call::Plate { place: any_place(random), load },
             _ => Call::Search { slots, window, area_bytes: random.index(2000) },
         }
     }
@@ -192,6 +196,14 @@ pub fn odd_slots(slots: u64, random: &mut Random) -> u64 {
 
 fn odd_load(random: &mut Random) -> i32 {
     random.pick(&[LEAST_LOAD - 1, LEAST_LOAD, GREATEST_LOAD, GREATEST_LOAD + 1, i32::MIN, i32::MAX])
+}
+
+/// The tally of a window or its page, which a store of form 0 has not.
+pub fn tally_or_page(trial: &mut Trial, slots: u64, t1: u64, t2: u64) -> Call {
+    if trial.form == Form::New && trial.random.once_in(2) {
+        return Call::Page { slots, t1, t2 };
+    }
+    Call::Tally { slots, t1, t2 }
 }
 
 /// A stack that is carried, now and then a place beyond them.

@@ -75,9 +75,9 @@ impl Judge {
     }
 
     /// Calls the library on the present chips with other areas of any length, past the script format.
-    pub fn call_with(&mut self, call: &Call, state: &mut [u8], rows: &mut [u8], values: &mut [u8]) -> Option<u8> {
+    pub fn call_with(&mut self, call: &Call, state: &mut [u8], rows: &mut [u8], answer: &mut [u8]) -> Option<u8> {
         let Areas { nand, nor, .. } = &mut self.tested.as_mut()?.world.areas;
-        Some(abi::enter(call, state, nand, nor, rows, values))
+        Some(abi::enter(call, state, nand, nor, rows, answer))
     }
 
     /// Has the library carry the present store into these areas, with another state area of any length.
@@ -127,7 +127,7 @@ impl Judge {
     }
 
     fn call(&mut self, command: &Command, form: Form, call: &Call) -> Step {
-        let mut expected_outputs = Outputs::untouched(call);
+        let mut expected_outputs = Outputs::untouched(form, call);
         let expected_number = Expectation.answer(form, call, &mut self.expected.areas, &mut expected_outputs);
         self.number = expected_number;
         self.figures.count_call(form, call, expected_number);
@@ -137,7 +137,7 @@ impl Judge {
                 copy_changed(&tested.world.areas.nand, &mut tested.nand_before);
                 copy_changed(&tested.world.areas.nor, &mut tested.nor_before);
             }
-            let mut outputs = Outputs::untouched(call);
+            let mut outputs = Outputs::untouched(form, call);
             let number = Library.answer(form, call, &mut tested.world.areas, &mut outputs);
             if number != expected_number {
                 return differ(command, format!("number {number}, expected {expected_number}"));
@@ -146,7 +146,7 @@ impl Judge {
             self.compare_areas(command)?;
         }
         if let (Call::Search { .. }, 0) = (call, expected_number) {
-            self.figures.rows += expected_outputs.value(0);
+            self.figures.rows += expected_outputs.value();
         }
         self.hold_to_log(command, form, call, expected_number, &expected_outputs)
     }
@@ -227,8 +227,7 @@ impl Judge {
 }
 
 fn compare_with_log(command: &Command, outputs: &Outputs, said: &Said) -> Step {
-    let values: Vec<u8> = said.values.iter().flat_map(|value| value.to_le_bytes()).collect();
-    if outputs.values != values {
+    if outputs.answer != said.answer() {
         return differ(command, format!("the paper log answers {:?}", said.values));
     }
     if outputs.rows[..said.rows.len()] != said.rows[..] {
@@ -238,7 +237,7 @@ fn compare_with_log(command: &Command, outputs: &Outputs, said: &Said) -> Step {
 }
 
 fn compare_outputs(command: &Command, got: &Outputs, expected: &Outputs) -> Step {
-    compare_bytes(command, "answer area", &got.values, &expected.values)?;
+    compare_bytes(command, "answer area", &got.answer, &expected.answer)?;
     compare_bytes(command, "result area", &got.rows, &expected.rows)
 }
 

@@ -9,12 +9,20 @@ use script::command::Command;
 use script::form::Form;
 
 const WRONG_LENGTH: u8 = 20;
-const ANSWER_LENGTHS: [usize; 8] = [0, 1, 7, 9, 160, 167, 169, 336];
+/// Of one number; of a tally and of a page, each with a plate less and as it is.
+const ANSWER_LENGTHS: [usize; 5] = [8, 168, 176, 943, 984];
 
 /// A length that a state area of this form does not have; it may be the other form's.
 fn wrong_length(form: Form, random: &mut Random) -> usize {
     let right = form.state_bytes();
     random.pick(&[0, 1, right - 1, right + 1, 2 * right, form.other().state_bytes()])
+}
+
+/// A length that this answer area does not have; it may be another call's.
+fn wrong_answer_length(right: usize, random: &mut Random) -> usize {
+    let others = ANSWER_LENGTHS.into_iter().filter(|length| *length != right);
+    let choices: Vec<usize> = [0, 1, right - 1, right + 1, 2 * right].into_iter().chain(others).collect();
+    random.pick(&choices)
 }
 
 /// Tries every call once on the present areas, with one wrong length or two.
@@ -29,6 +37,7 @@ pub fn try_wrong_ones(trial: &mut Trial, slots: u64) -> Step {
         Call::Drop { slots },
         Call::Search { slots, window, area_bytes: 64 },
         Call::Tally { slots, t1: 0, t2: time },
+        Call::Page { slots, t1: 0, t2: time },
         Call::Plate { place: trial.random.below(3), load: 251 },
     ];
     calls.iter().try_for_each(|call| try_wrong_one(trial, call))
@@ -38,29 +47,32 @@ pub fn try_wrong_ones(trial: &mut Trial, slots: u64) -> Step {
 fn which_are_wrong(call: &Call, random: &mut Random) -> (bool, bool) {
     match call {
         Call::Plate { .. } => (false, true),
-        Call::Search { .. } | Call::Tally { .. } => random.pick(&[(true, false), (false, true), (true, true)]),
+        Call::Search { .. } | Call::Tally { .. } | Call::Page { .. } => {
+            random.pick(&[(true, false), (false, true), (true, true)])
+        }
         _ => (true, false),
     }
 }
 
 fn try_wrong_one(trial: &mut Trial, call: &Call) -> Step {
-    let mut outputs = Outputs::untouched(call);
+    let mut outputs = Outputs::untouched(Form::New, call);
     let mut state = trial.areas().state.clone();
     let (wrong_state, wrong_answer) = which_are_wrong(call, &mut trial.random);
     if wrong_state {
         state.resize(wrong_length(Form::New, &mut trial.random), 0);
     }
     if wrong_answer {
-        outputs.values.resize(trial.random.pick(&ANSWER_LENGTHS), UNTOUCHED);
+        let length = wrong_answer_length(outputs.answer.len(), &mut trial.random);
+        outputs.answer.resize(length, UNTOUCHED);
     }
     let (state_before, outputs_before) = (state.clone(), outputs.clone());
-    let number = trial.judge.call_with(call, &mut state, &mut outputs.rows, &mut outputs.values);
+    let number = trial.judge.call_with(call, &mut state, &mut outputs.rows, &mut outputs.answer);
     let Some(number) = number else { return Ok(()) };
     let lengths = format!(
         "{} {call} with a state area of {} and an answer area of {} bytes",
         call.name(),
         state.len(),
-        outputs.values.len()
+        outputs.answer.len()
     );
     if number != WRONG_LENGTH {
         return Err(Difference(format!("{lengths}: number {number}, expected {WRONG_LENGTH}")));

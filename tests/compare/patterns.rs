@@ -36,7 +36,7 @@ pub enum Loads {
 impl Loads {
     pub fn any(random: &mut Random) -> Loads {
         let load = random.load(LEAST_LOAD, GREATEST_LOAD);
-        match random.below(16) {
+        match random.below(17) {
             0 => Loads::Equal(load),
             1 | 2 => Loads::Steady { load, step: random.pick(&[1, 2, 10, 250, 500, -1, -25, -500]) },
             3 | 4 => {
@@ -45,7 +45,7 @@ impl Loads {
             }
             5 | 6 => Loads::Between(LEAST_LOAD, GREATEST_LOAD),
             7 => Loads::Between(LEAST_LOAD, -1),
-            8 => Loads::Between(0, 10_500),
+            8 => Loads::Between(0, 10_750),
             9 => Loads::AtLimits,
             10 => {
                 let width = random.pick(&[3, 7, 40]);
@@ -53,6 +53,7 @@ impl Loads {
             }
             11 => Loads::Closing { load, towards: random.pick(&[LEAST_LOAD, 0, GREATEST_LOAD]) },
             12 | 13 => Loads::Runs { load, left: 0 },
+            14 => Loads::AtPlateEnds,
             _ => Loads::Even { load },
         }
     }
@@ -105,8 +106,11 @@ impl Loads {
     }
 }
 
-/// At the end of a plate's band, or one beside it.
+/// At the end of a plate's band, of the last one too, or one beside it; now and then far beyond the stack.
 pub fn near_plate_end(random: &mut Random) -> i32 {
+    if random.once_in(16) {
+        return random.load(10_251, GREATEST_LOAD);
+    }
     500 * random.load(-2, 22) + 250 + random.load(-1, 1)
 }
 

@@ -2,7 +2,6 @@
 use crate::limits::Outcome;
 use crate::lines::{asked, lines_of, Asked, SLOTS};
 use crate::paper::{PaperLog, Said};
-use crate::service_page::page;
 use script::calls::Call;
 use script::form::Form;
 
@@ -35,9 +34,7 @@ fn added(asked: &Asked, said: &Said, log: &PaperLog) -> String {
             let lines = lifts.iter().map(|lift| format!("\n{:15}{:8}", lift.time, lift.load));
             counts + &lines.collect::<String>()
         }
-        Call::Tally { t1, t2, .. } if asked.letter == 'P' => {
-            page(t1, t2, &said.values).iter().map(|line| format!("\n{line}")).collect()
-        }
+        Call::Page { .. } => said.page.iter().map(|line| format!("\n{line}")).collect(),
         _ => counts,
     }
 }
@@ -83,11 +80,11 @@ P              2
     fn p_prints_the_tally_of_t_as_a_page() {
         let input = "\
 A              5     250
-A              6    9751
+A              6   10251
 T              5              5
 P              5              5";
-        let counts = "      0".repeat(20);
-        let plates: String = (1..=20).rev().map(|plate| format!("{plate:4}        0    0{:22}\n", "")).collect();
+        let counts = "      0".repeat(21);
+        let plates: String = (1..=21).rev().map(|plate| format!("{plate:4}        0    0{:22}\n", "")).collect();
         let page = format!("{:14}5{:24}5\n{plates}   0        1  100{:22}\n{:12}1{:27}\n", "", "", "", "", "");
         assert_eq!(answered(input), format!("A  0\nA  0\nT  0      1{counts}\nP  0\n{page}"));
     }

@@ -8,7 +8,7 @@ pub const RESULT_ROWS: usize = 320;
 const TIME_COLUMNS: usize = 15;
 const LOAD_COLUMNS: usize = 8;
 
-/// What a line asks for. T and P ask for the same tally, to be printed in two ways.
+/// What a line asks for, and the letter of its answer.
 #[derive(Debug, PartialEq)]
 pub struct Asked {
     pub letter: char,
@@ -29,7 +29,8 @@ pub fn asked(line: &[u8]) -> Option<Asked> {
         b'C' => Call::Close { slots: SLOTS },
         b'G' => Call::Drop { slots: SLOTS },
         b'Q' => Call::Search { slots: SLOTS, window: columns.window()?, area_bytes: RESULT_ROWS * ROW_BYTES },
-        b'T' | b'P' => Call::Tally { slots: SLOTS, t1: columns.time()?, t2: columns.time()? },
+        b'T' => Call::Tally { slots: SLOTS, t1: columns.time()?, t2: columns.time()? },
+        b'P' => Call::Page { slots: SLOTS, t1: columns.time()?, t2: columns.time()? },
         _ => return None,
     };
     columns.0.is_empty().then_some(Asked { letter: char::from(*letter), call })
@@ -92,7 +93,7 @@ mod tests {
 
     #[test]
     fn each_form_is_read() {
-        let tally = Call::Tally { slots: 2, t1: 7, t2: 999_999_999_999_999 };
+        let (t1, t2) = (7, 999_999_999_999_999);
         let window = Window { t1: 0, t2: 3000, k1: -251, k2: 1000 };
         let forms = [
             ("A           1000     250", Call::Append { slots: 2, time: 1000, load: 250, note: [0; 20] }),
@@ -100,8 +101,8 @@ mod tests {
             ("C", Call::Close { slots: 2 }),
             ("G", Call::Drop { slots: 2 }),
             ("Q              0           3000    -251    1000", Call::Search { slots: 2, window, area_bytes: 10_240 }),
-            ("T              7999999999999999", tally.clone()),
-            ("P              7999999999999999", tally),
+            ("T              7999999999999999", Call::Tally { slots: 2, t1, t2 }),
+            ("P              7999999999999999", Call::Page { slots: 2, t1, t2 }),
         ];
         for (line, call) in forms {
             let letter = line.chars().next().unwrap();

@@ -2,8 +2,9 @@
 use crate::limits::*;
 use crate::load_tree::LoadTree;
 use crate::plate::plate_of;
+use crate::service_page::{page, text_of};
 use crate::stacks::plate_at;
-use script::calls::{Call, Window, PLATES};
+use script::calls::{Call, Window};
 use script::form::Form;
 
 #[derive(Clone, Debug, PartialEq)]
@@ -42,8 +43,20 @@ pub struct Said {
     pub repeats_time: bool,
     /// The rows of a search, one after another.
     pub rows: Vec<u8>,
-    /// Of a search the count of rows, of a tally its counts, of a lookup the plate.
+    /// Of a search the count of rows, of a tally or a page its counts, of a lookup the plate.
     pub values: Vec<u64>,
+    /// The lines of a page.
+    pub page: Vec<String>,
+}
+
+impl Said {
+    /// The bytes of the answer area: the values, or the page.
+    pub fn answer(&self) -> Vec<u8> {
+        if self.page.is_empty() {
+            return self.values.iter().flat_map(|value| value.to_le_bytes()).collect();
+        }
+        text_of(&self.page).into_bytes()
+    }
 }
 
 /// The log is the same in both forms; they differ in whether a lift may have the time of the one before.
@@ -120,6 +133,7 @@ impl PaperLog {
             | Call::Drop { slots }
             | Call::Search { slots, .. }
             | Call::Tally { slots, .. }
+            | Call::Page { slots, .. }
                 if slots != self.slots =>
             {
                 Err(SLOTS_OR_NAND_LENGTH)
@@ -133,6 +147,7 @@ impl PaperLog {
             Call::Drop { .. } => self.drop_oldest(),
             Call::Search { window, area_bytes, .. } => self.search(&window, area_bytes / ROW_BYTES),
             Call::Tally { t1, t2, .. } => self.tally(t1, t2),
+            Call::Page { t1, t2, .. } => self.service_page(t1, t2),
         }
     }
 
@@ -197,10 +212,15 @@ impl PaperLog {
     }
 
     fn tally(&self, t1: u64, t2: u64) -> Outcome<Said> {
-        let mut counts = vec![0; PLATES];
+        let mut counts = vec![0; self.form.counts()];
         for lift in self.found(&Window { t1, t2, k1: LEAST_LOAD, k2: GREATEST_LOAD })? {
-            counts[plate_of(lift.load)] += 1;
+            counts[plate_of(self.form, lift.load)] += 1;
         }
         Ok(Said { values: counts, ..Said::default() })
+    }
+
+    fn service_page(&self, t1: u64, t2: u64) -> Outcome<Said> {
+        let tally = self.tally(t1, t2)?;
+        Ok(Said { page: page(t1, t2, &tally.values), ..tally })
     }
 }

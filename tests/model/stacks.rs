@@ -1,4 +1,4 @@
-//! W-205: stacks of uneven plates, up to which load the band of each plate goes, and the list of stacks that the
+//! W-205 and W-206: stacks of uneven plates, up to which load the band of each plate goes, and the list of stacks that the
 //! generator reads.
 use crate::limits::*;
 use crate::lines::digits_in;
@@ -20,19 +20,23 @@ pub fn carried() -> [Stack; 2] {
 }
 
 /// The last load of each plate's band, plate 0 first. "Plate 0 ends at half the first plate, rounded down. A plate's band
-/// ends halfway, rounded down, between the sum down to it and the sum down to the next; the last band has no end."
+/// ends halfway, rounded down, between the sum down to it and the sum down to the next"; then "a last end half the last
+/// plate, rounded down, above the full sum" (W-206).
 pub fn ends(stack: &[i64]) -> Vec<i64> {
     let sum_down_to = |plate: usize| stack[..plate].iter().sum::<i64>();
-    (0..stack.len()).map(|plate| (sum_down_to(plate) + sum_down_to(plate + 1)) / 2).collect()
+    let halfway_to_next = |plate: usize| (sum_down_to(plate) + sum_down_to(plate + 1)) / 2;
+    let last_end = sum_down_to(stack.len()) + stack[stack.len() - 1] / 2;
+    (0..stack.len()).map(halfway_to_next).chain([last_end]).collect()
 }
 
-/// "The lookup takes a stack's place in the list, from 0"; the load is looked at before the place.
+/// "The lookup takes a stack's place in the list, from 0"; the load is looked at before the place. Above the last end it is
+/// a plate more than the stack has.
 pub fn plate_at(place: u64, load: i32) -> Outcome<usize> {
     refuse_if(load_past_limit(load), LOAD_LIMIT)?;
     let stacks = carried();
     let stack = usize::try_from(place).ok().and_then(|place| stacks.get(place)).ok_or(NO_STACK)?;
     let in_band = |end: &i64| i64::from(load) <= *end;
-    Ok(ends(stack).iter().position(in_band).unwrap_or(stack.len()))
+    Ok(ends(stack).iter().position(in_band).unwrap_or(stack.len() + 1))
 }
 
 /// What the generator prints for an input: the ends in the list's own form, or the number alone.
@@ -72,6 +76,7 @@ fn plate_in(line: &[u8]) -> Option<i64> {
 mod tests {
     use super::*;
     use crate::plate::plate_of;
+    use script::form::Form;
 
     fn printed(input: &str) -> String {
         String::from_utf8(generated(input.as_bytes())).unwrap()
@@ -80,8 +85,9 @@ mod tests {
     #[test]
     fn the_sticker_of_w_204() {
         let sticker: Vec<i64> = (0..20).map(|plate| 250 + 500 * plate).collect();
-        assert_eq!(ends(&[500; 20]), sticker);
-        assert_eq!(ends(&carried()[0]), sticker);
+        assert_eq!(carried()[0], [500; 20]);
+        assert_eq!(ends(&[500; 20])[..20], sticker);
+        assert_eq!(ends(&[500; 20])[20..], [10_250]);
     }
 
     #[test]
@@ -89,34 +95,35 @@ mod tests {
         let stack = &carried()[1];
         assert_eq!(stack.iter().sum::<i64>(), 9_000);
         assert_eq!(ends(stack)[..7], [125, 375, 625, 875, 1_250, 1_750, 2_250]);
-        assert_eq!(ends(stack)[19], 8_750);
+        assert_eq!(ends(stack)[19..], [8_750, 9_250]);
     }
 
     #[test]
     fn halves_are_rounded_down() {
-        assert_eq!(ends(&[101]), [50]);
-        assert_eq!(ends(&[101, 101]), [50, 151]);
-        assert_eq!(ends(&[101, 100, 103]), [50, 151, 252]);
-        assert_eq!(ends(&[5_000; 24])[23], 117_500);
+        assert_eq!(ends(&[101]), [50, 151]);
+        assert_eq!(ends(&[101, 101]), [50, 151, 252]);
+        assert_eq!(ends(&[101, 100, 103]), [50, 151, 252, 355]);
+        assert_eq!(ends(&[5_000; 24])[23..], [117_500, 122_500]);
     }
 
     #[test]
     fn a_lookup_by_place() {
-        (-1_000..11_000).for_each(|load| assert_eq!(plate_at(0, load), Ok(plate_of(load))));
-        let on_second =
-            [(-1, 0), (125, 0), (126, 1), (875, 3), (876, 4), (1_250, 4), (1_251, 5), (8_750, 19), (8_751, 20)];
-        on_second.iter().for_each(|(load, plate)| assert_eq!(plate_at(1, *load), Ok(*plate)));
+        (-1_000..11_000).for_each(|load| assert_eq!(plate_at(0, load), Ok(plate_of(Form::New, load))));
+        let at_the_top = [(-1, 0), (125, 0), (126, 1), (875, 3), (876, 4), (1_250, 4), (1_251, 5)];
+        let at_the_end = [(8_750, 19), (8_751, 20), (9_250, 20), (9_251, 21), (100_000, 21)];
+        let on_second = at_the_top.iter().chain(&at_the_end);
+        on_second.for_each(|(load, plate)| assert_eq!(plate_at(1, *load), Ok(*plate)));
         assert_eq!([2, 1 << 32, u64::MAX].map(|place| plate_at(place, 0)), [Err(15); 3]);
         assert_eq!([100_001, -50_001].map(|load| plate_at(2, load)), [Err(5); 2]);
     }
 
     #[test]
     fn lists_are_read() {
-        assert_eq!(printed("   101\n"), "    50\n");
-        assert_eq!(printed("   101"), "    50\n");
-        assert_eq!(printed("000101\n 00500\n\n  5000\n"), "    50\n   351\n\n  2500\n");
-        assert_eq!(printed(&"   100\n".repeat(24)).lines().count(), 24);
-        assert_eq!(printed(&["   100\n"; 16].join("\n")), ["    50\n"; 16].join("\n"));
+        assert_eq!(printed("   101\n"), "    50\n   151\n");
+        assert_eq!(printed("   101"), "    50\n   151\n");
+        assert_eq!(printed("000101\n 00500\n\n  5000\n"), "    50\n   351\n   851\n\n  2500\n  7500\n");
+        assert_eq!(printed(&"   100\n".repeat(24)).lines().count(), 25);
+        assert_eq!(printed(&["   100\n"; 16].join("\n")), ["    50\n   150\n"; 16].join("\n"));
     }
 
     #[test]

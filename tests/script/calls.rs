@@ -3,7 +3,8 @@ use crate::areas::Areas;
 use crate::form::Form;
 
 pub const ROW_BYTES: usize = 32;
-pub const PLATES: usize = 21;
+/// "a page 40 columns wide" (W-201); a line feed follows each line.
+pub const PAGE_COLUMNS: usize = 40;
 /// Result and answer areas hold this byte before a call, so that bytes left alone can be told.
 pub const UNTOUCHED: u8 = 0xAA;
 
@@ -15,7 +16,8 @@ pub struct Window {
     pub k2: i32,
 }
 
-/// The seven calls of document 01; a plate is looked up on the stack at a place (W-205).
+/// The seven calls of document 01 and the service page (W-201), which form 0 has not; a plate is looked up on the stack at a
+/// place (W-205).
 #[derive(Clone, Debug, PartialEq)]
 pub enum Call {
     Format { slots: u64 },
@@ -24,11 +26,12 @@ pub enum Call {
     Drop { slots: u64 },
     Search { slots: u64, window: Window, area_bytes: usize },
     Tally { slots: u64, t1: u64, t2: u64 },
+    Page { slots: u64, t1: u64, t2: u64 },
     Plate { place: u64, load: i32 },
 }
 
 impl Call {
-    pub const NAMES: [&'static str; 7] = ["format", "append", "close", "drop", "search", "tally", "plate"];
+    pub const NAMES: [&'static str; 8] = ["format", "append", "close", "drop", "search", "tally", "page", "plate"];
 
     /// The call's place in `NAMES`.
     pub fn kind(&self) -> usize {
@@ -39,7 +42,8 @@ impl Call {
             Call::Drop { .. } => 3,
             Call::Search { .. } => 4,
             Call::Tally { .. } => 5,
-            Call::Plate { .. } => 6,
+            Call::Page { .. } => 6,
+            Call::Plate { .. } => 7,
         }
     }
 
@@ -47,10 +51,12 @@ impl Call {
         Self::NAMES[self.kind()]
     }
 
-    fn value_bytes(&self) -> usize {
+    /// A page has a heading, a line for each plate and a total.
+    fn answer_bytes(&self, form: Form) -> usize {
         match self {
             Call::Search { .. } | Call::Plate { .. } => 8,
-            Call::Tally { .. } => 8 * PLATES,
+            Call::Tally { .. } => 8 * form.counts(),
+            Call::Page { .. } => (1 + form.counts() + 1) * (PAGE_COLUMNS + 1),
             _ => 0,
         }
     }
@@ -84,22 +90,27 @@ impl Carry {
 #[derive(Clone, Debug, PartialEq)]
 pub struct Outputs {
     pub rows: Vec<u8>,
-    /// Numbers of eight bytes: a search's count, a tally's counts, a plate.
-    pub values: Vec<u8>,
+    /// Numbers of eight bytes: a search's count, a tally's counts, a plate; or the lines of a page.
+    pub answer: Vec<u8>,
 }
 
 impl Outputs {
-    pub fn untouched(call: &Call) -> Outputs {
+    pub fn untouched(form: Form, call: &Call) -> Outputs {
         let area_bytes = match call {
             Call::Search { area_bytes, .. } => *area_bytes,
             _ => 0,
         };
-        Outputs { rows: vec![UNTOUCHED; area_bytes], values: vec![UNTOUCHED; call.value_bytes()] }
+        Outputs { rows: vec![UNTOUCHED; area_bytes], answer: vec![UNTOUCHED; call.answer_bytes(form)] }
     }
 
-    pub fn value(&self, index: usize) -> u64 {
-        let bytes = &self.values[8 * index..8 * index + 8];
-        u64::from_le_bytes(bytes.try_into().unwrap())
+    /// The numbers of the answer, one after another.
+    pub fn values(&self) -> impl Iterator<Item = u64> + '_ {
+        self.answer.chunks_exact(8).map(|bytes| u64::from_le_bytes(bytes.try_into().unwrap()))
+    }
+
+    /// The only number of an answer.
+    pub fn value(&self) -> u64 {
+        self.values().next().expect("an answer of one number")
     }
 }
 

@@ -88,8 +88,8 @@ impl Field {
     }
 }
 
-/// A call of document 01 is of a form; a plate is looked up without a store, and counts as form 1's. `Gen` has an input of
-/// the generator, which works on no store either.
+/// A call of document 01 is of a form, a page of form 1; a plate is looked up without a store, and counts as form 1's. `Gen`
+/// has an input of the generator, which works on no store either.
 #[derive(Clone, Debug, PartialEq)]
 pub enum Command {
     Use(usize),
@@ -136,7 +136,7 @@ impl fmt::Display for Call {
             Call::Search { slots, window: Window { t1, t2, k1, k2 }, area_bytes } => {
                 write!(out, "{slots} {t1} {t2} {k1} {k2} {area_bytes}")
             }
-            Call::Tally { slots, t1, t2 } => write!(out, "{slots} {t1} {t2}"),
+            Call::Tally { slots, t1, t2 } | Call::Page { slots, t1, t2 } => write!(out, "{slots} {t1} {t2}"),
             Call::Plate { place, load } => write!(out, "{place} {load}"),
         }
     }

@@ -1,4 +1,4 @@
-//! The two forms of a store, and where each field stands in their state areas.
+//! The two forms of a store: their plates, and where each field stands in their state areas.
 
 /// Form 0 is document 01's, form 1 that of W-202.
 #[derive(Clone, Copy, Debug, PartialEq)]
@@ -22,6 +22,19 @@ impl Form {
             Form::Old => 0,
             Form::New => 1,
         }
+    }
+
+    /// "20 above 9,750"; in form 1 "a load above 10,250 is now called plate 21" (W-206)
+    pub const fn last_plate(self) -> usize {
+        match self {
+            Form::Old => 20,
+            Form::New => 21,
+        }
+    }
+
+    /// How many counts a tally has: one for each plate, from 0 on.
+    pub const fn counts(self) -> usize {
+        self.last_plate() + 1
     }
 
     /// "so a pointer gains its serial: slot 2, serial 4, time 8" (W-202)

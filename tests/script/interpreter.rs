@@ -1,6 +1,6 @@
 //! Runs a script over a store and writes the lines that answer it.
 use crate::areas::{Areas, World, PAGE_BYTES, SLOT_BYTES};
-use crate::calls::{Call, Carry, Outputs, Store, PLATES, ROW_BYTES};
+use crate::calls::{Call, Carry, Outputs, Store, ROW_BYTES};
 use crate::command::{command_name, hex, Command, Shown};
 use crate::form::Form;
 use crate::hash::{copy_changed, fnv1a, KeptHash};
@@ -83,25 +83,26 @@ impl<S: Store> Interpreter<S> {
         if !matches!(call, Call::Plate { .. }) {
             self.remember_chips();
         }
-        let mut outputs = Outputs::untouched(call);
+        let mut outputs = Outputs::untouched(form, call);
         let number = self.store.answer(form, call, &mut self.world.areas, &mut outputs);
         let accepted = number == 0;
         let mut line = format!("{} {number}", command_name(form, call));
         match call {
             Call::Search { .. } => {
-                let count = if accepted { outputs.value(0) } else { 0 };
+                let count = if accepted { outputs.value() } else { 0 };
                 let found = (count as usize).saturating_mul(ROW_BYTES).min(outputs.rows.len());
                 self.found = outputs.rows[..found].to_vec();
                 line += &format!(" {count} {:016x}", fnv1a(&outputs.rows));
                 self.result_area = outputs.rows;
             }
-            Call::Tally { .. } if accepted => {
-                (0..PLATES).for_each(|plate| line += &format!(" {}", outputs.value(plate)));
+            Call::Tally { .. } | Call::Plate { .. } if accepted => {
+                outputs.values().for_each(|value| line += &format!(" {value}"));
             }
-            Call::Plate { .. } if accepted => line += &format!(" {}", outputs.value(0)),
+            // Its line feeds are its own.
+            Call::Page { .. } if accepted => return format!("{line}\n{}", String::from_utf8_lossy(&outputs.answer)),
             _ => {}
         }
-        if !matches!(call, Call::Plate { .. }) {
+        if !matches!(call, Call::Plate { .. } | Call::Page { .. }) {
             line += &hashes(&self.world.areas, form, &mut self.nand_hash);
         }
         line + "\n"

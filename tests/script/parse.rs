@@ -75,14 +75,15 @@ impl<'a> Words<'a> {
             "drop" => Ok(Call::Drop { slots }),
             "search" => Ok(Call::Search { slots, window: self.window()?, area_bytes: self.number()? }),
             "tally" => Ok(Call::Tally { slots, t1: self.number()?, t2: self.number()? }),
+            "page" => Ok(Call::Page { slots, t1: self.number()?, t2: self.number()? }),
             other => Err(format!("'{other}' is no command")),
         }
     }
 
-    /// A call of form 0 has a 0 after its name; a plate is looked up without a store.
+    /// A call of form 0 has a 0 after its name; it has no page, and a plate is looked up without a store.
     fn call_of_form(&mut self, name: &str) -> Result<Command, String> {
         match name.strip_suffix('0') {
-            Some(old) if old != "plate" => Ok(Command::Call(Form::Old, self.call(old)?)),
+            Some(old) if !["page", "plate"].contains(&old) => Ok(Command::Call(Form::Old, self.call(old)?)),
             _ => Ok(Command::Call(Form::New, self.call(name)?)),
         }
     }

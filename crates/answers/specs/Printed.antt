@@ -50,7 +50,7 @@ headBytes letter n = letter ∷ number 3 n
 abbrev pub countBytes : ℕ → List ℕ
 countBytes n = number 7 n
 
--- "21 counts (7 each)"
+-- counts, "(7 each)"
 unfoldable pub countsBytes : List ℕ → List ℕ
 countsBytes [] = []
 countsBytes (n ∷ ns) = countBytes n ++ countsBytes ns

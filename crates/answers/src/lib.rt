@@ -114,9 +114,9 @@ pub fn put_lift(s: &mut [u8], time: u64, code: u32)
     put_number(s, TIME_COLUMNS, LOAD_COLUMNS, code < CODE_OF_ZERO, size);
 }
 
-// "an accepted T 21 counts (7 each)"
+// "an accepted T", 22 counts "(7 each)"
 pub fn put_counts(s: &mut [u8], counts: [u64; PLATES])
-    requires { ⌜ 151 ≤ length (now s) ⌝ }
+    requires { ⌜ 158 ≤ length (now s) ⌝ }
     ensures { λ _. ⌜ now (s .exit) ≡ splice (now (s .entry)) 4 (Printed.countsBytes counts) ⌝ }
 {
     let mut i: usize = 0;

@@ -51,9 +51,9 @@ fn equal(list: u64) -> u64 {
     1
 }
 
-// Loads at the limits, about zero, and at the ends of plates 0 and 19.
+// Loads at the limits, about zero, and at the ends of plates 0, 19 and 20.
 fn edge(x: u64) -> u64 {
-    match x % 10 {
+    match x % 12 {
         0 => 1,
         1 => 2,
         2 => 150001,
@@ -63,6 +63,8 @@ fn edge(x: u64) -> u64 {
         6 => 50251,
         7 => 50252,
         8 => 59751,
-        _ => 59752,
+        9 => 59752,
+        10 => 60251,
+        _ => 60252,
     }
 }

@@ -1,14 +1,16 @@
 // What a call over byte areas leaves in its caller's areas: written if the call was accepted, else as it was. A state has 783 bytes, 775
-// in form 0, the other answers are 8-byte numbers.
+// in form 0, the other answers are 8-byte numbers, a service page its text.
 use plate::PLATES;
 use store::Answer;
 use store::OldState;
 ghost use mathlib.Core.Path.{_≡_};
-ghost use Prim.Native.Nat.{_*_};
+ghost use Prim.Native.Nat.{_*_, _^_, _<_};
 ghost use lib.ListN.{length};
 ghost use Rattle.form.specs.declared.Form.the-variants.{Old, New};
 ghost use Rattle.codec.specs.Number.{bytes};
+ghost use Rattle.plate.specs.Total.{total};
 ghost use Rattle.plate.specs.Plate.{plates};
+ghost use Rattle.service_page.specs.Page.{pageBytes, pageOf};
 ghost use Rattle.loads.specs.Signed.{sideBySide};
 ghost use Rattle.state_bytes.specs.StateBytes.{stateBytes, oldStateBytes, areaLength};
 ghost use Rattle.kept.specs.Kept.{kept};
@@ -70,5 +72,15 @@ pub fn keep_counts(answer: &mut [u8], number: u8, counts: [u64; PLATES])
 {
     if number == 0 {
         put_counts(answer, counts);
+    }
+}
+
+// The page of a tally goes into its area if the tally was accepted.
+pub fn keep_page(page: &mut [u8], number: u8, t1: u64, t2: u64, counts: [u64; PLATES])
+    requires { ⌜ (length (now page) ≡ pageBytes) × (total counts < 2 ^ 57) ⌝ }
+    ensures { λ _. ⌜ now (page .exit) ≡ kept number (pageOf t1 t2 counts) (now (page .entry)) ⌝ }
+{
+    if number == 0 {
+        service_page::put_page(page, 0, t1, t2, counts);
     }
 }

@@ -3,27 +3,27 @@
 ghost use mathlib.Core.Path.{_≡_};
 ghost use Prim.Native.Nat.{_+_, _-_, _*_, _/_, _^_, _≤_, _<_};
 
-// Loads 250 and 9,750 as stored, and the kilograms of a plate: 5.
+// Loads 250 and 10,250 as stored, and the kilograms of a plate: 5.
 const PLATE_0_TOP: u64 = 50251;
 
-const PLATE_19_TOP: u64 = 59751;
+const PLATE_20_TOP: u64 = 60251;
 
 const PLATE_LOADS: u64 = 500;
 
-const HEAVIEST_PLATE: u64 = 20;
+const BEYOND_STACK: u64 = 21;
 // "fitted values (14A+7D)/182 and (14A+32D)/182"
 const FIT_PARTS: u64 = 182;
 
-// "0 up to 250; n for 500n−250 < load ≤ 500n+250; 20 above 9,750", of a load as stored.
+// "0 up to 250; n for 500n−250 < load ≤ 500n+250", and 21 above 10,250 (W-206), of a load as stored.
 pub fn plate_of(code: u64) -> u64
-    ensures { λ r. ⌜ (r ≤ 20) × ((code ≤ 50251 → r ≡ 0) × (59751 < code → r ≡ 20)) ⌝ }
-    ensures { λ r. ⌜ (50251 < code → code ≤ 59751 → (500 * r + 49751 < code) × (code ≤ 500 * r + 50251)) ⌝ }
+    ensures { λ r. ⌜ (r ≤ 21) × ((code ≤ 50251 → r ≡ 0) × (60251 < code → r ≡ 21)) ⌝ }
+    ensures { λ r. ⌜ (50251 < code → code ≤ 60251 → (500 * r + 49751 < code) × (code ≤ 500 * r + 50251)) ⌝ }
 {
     if code <= PLATE_0_TOP {
         return 0;
     }
-    if PLATE_19_TOP < code {
-        return HEAVIEST_PLATE;
+    if PLATE_20_TOP < code {
+        return BEYOND_STACK;
     }
     (code - 49752) / PLATE_LOADS
 }

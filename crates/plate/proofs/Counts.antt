@@ -10,7 +10,8 @@ use lib.ListN.{length, getD, set, length-set}
 use lib.Seq.{ext-getD, getD-set-same, getD-set-other}
 use borrow.Author.Tests.{eqb-true, eqb-false}
 use Rattle.lift.specs.Limits.{loadOf}
-use Rattle.plate.specs.Plate.{plateOf, countAt, countsFrom, countsOf, noCounts, total}
+use Rattle.plate.specs.Total.{total}
+use Rattle.plate.specs.Plate.{plateOf, countAt, countsFrom, countsOf, noCounts}
 use Rattle.plate.specs.Inner.Counted.{countedIn}
 use Rattle.plate.proofs.Bands.{plate-small}
 use Rattle.plate.proofs.Totals.{total-more}
@@ -36,7 +37,7 @@ count-small n (code ∷ codes) = go (eqb (plateOf (loadOf code)) n) (count-small
     go true h = omega arith
     go false h = omega arith
 
--- ---- the 21 counts
+-- ---- the 22 counts
 
 length-from : (k n : ℕ) (codes : List ℕ) → length (countsFrom k n codes) ≡ k
 unfolding countsFrom
@@ -49,13 +50,13 @@ place-from zero n codes i h = absurd (omega arith)
 place-from (suc k) n codes zero h = ap (λ (m : ℕ). countAt m codes) (omega arith)
 place-from (suc k) n codes (suc i) h = place-from k (suc n) codes i (omega arith) ∙ ap (λ (m : ℕ). countAt m codes) (omega arith)
 
-pub length-counts : (codes : List ℕ) → length (countsOf codes) ≡ 21
+pub length-counts : (codes : List ℕ) → length (countsOf codes) ≡ 22
 unfolding countsOf
-length-counts codes = length-from 21 0 codes
+length-counts codes = length-from 22 0 codes
 
-pub count-place : (codes : List ℕ) (i : ℕ) → i ≤ 20 → getD (countsOf codes) i 0 ≡ countAt i codes
+pub count-place : (codes : List ℕ) (i : ℕ) → i ≤ 21 → getD (countsOf codes) i 0 ≡ countAt i codes
 unfolding countsOf
-count-place codes i h = place-from 21 0 codes i (omega arith) ∙ ap (λ (m : ℕ). countAt m codes) (omega arith)
+count-place codes i h = place-from 22 0 codes i (omega arith) ∙ ap (λ (m : ℕ). countAt m codes) (omega arith)
 
 -- counts are those of the same loads where every plate has as many
 pub same-counts : (a b : List ℕ) → ((n : ℕ) → countAt n a ≡ countAt n b) → countsOf a ≡ countsOf b
@@ -70,7 +71,7 @@ pub counts-none : noCounts ≡ countsOf []
 unfolding countsOf countsFrom countAt
 counts-none = refl
 
-place-more : (codes : List ℕ) (p i : ℕ) → p ≤ 20 → i ≤ 20
+place-more : (codes : List ℕ) (p i : ℕ) → p ≤ 21 → i ≤ 21
     → getD (set (countsOf codes) p (getD (countsOf codes) p 0 + 1)) i 0
     ≡ cond (eqb p i) (suc (countAt i codes)) (countAt i codes)
 place-more codes p i hp hi = go (eqb p i) refl
@@ -90,7 +91,7 @@ pub counts-more : (codes : List ℕ) (code : ℕ) → countedIn (countsOf codes)
 unfolding countAt
 counts-more codes code =
     let p : ℕ = plateOf (loadOf code) in
-    let n : length (set (countsOf codes) p (getD (countsOf codes) p 0 + 1)) ≡ 21 =
+    let n : length (set (countsOf codes) p (getD (countsOf codes) p 0 + 1)) ≡ 22 =
     length-set (countsOf codes) p (getD (countsOf codes) p 0 + 1) ∙ length-counts codes in
     ext-getD 0 (countedIn (countsOf codes) code) (countsOf (code ∷ codes)) (n ∙ sym (length-counts (code ∷ codes))) (λ i h.
     place-more codes p i (plate-small (loadOf code)) (omega arith) ∙ sym (count-place (code ∷ codes) i (omega arith)))

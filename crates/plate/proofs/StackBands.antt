@@ -1,4 +1,4 @@
--- Every load lies in exactly one band of a stack, and its plate is that one (document 02, W-205). The idea: the first end that a load is
+-- Every load lies in exactly one band of a stack, and its plate is that one (document 02, W-205 and W-206). The idea: the first end that a load is
 -- not past is the only one, because the ends rise. Assumes nothing.
 use mathlib.Core.Path.{_≡_, refl, sym, ap, _∙_}
 use mathlib.Core.Bool.{Bool, true, false, cond}
@@ -55,12 +55,12 @@ module _ (stack : List ℕ) (load : ℤ) where
   unfolding pastAbove
   next-above n h = past-it (endOf stack n) load h
 
-  in-band-from : (k n : ℕ) → n + k ≡ length stack → pastAbove stack n load ≡ true
+  in-band-from : (k n : ℕ) → n + k ≡ suc (length stack) → pastAbove stack n load ≡ true
       → inBandOf stack (n + plateBy (endsFrom stack k n) load) load ≡ true
   unfolding endsFrom plateBy inBandOf
   in-band-from zero n e p =
       let z : n + 0 ≡ n = omega arith in
-      rw (z, p, eq-eqb n (length stack) (omega arith))
+      rw (z, p, eq-eqb n (suc (length stack)) (omega arith))
   in-band-from (suc k) n e p = go (leZ load (pos (endOf stack n))) refl (in-band-from k (suc n) (omega arith))
     where
       go : (t : Bool) → leZ load (pos (endOf stack n)) ≡ t
@@ -68,7 +68,7 @@ module _ (stack : List ℕ) (load : ℤ) where
           → inBandOf stack (n + cond t 0 (suc (plateBy (endsFrom stack k (suc n)) load))) load ≡ true
       go true h r =
           let z : n + 0 ≡ n = omega arith in
-          rw (z, p, h) (or-second (eqb n (length stack)) true refl)
+          rw (z, p, h) (or-second (eqb n (suc (length stack))) true refl)
       go false h r =
           let z : n + suc (plateBy (endsFrom stack k (suc n)) load) ≡ suc n + plateBy (endsFrom stack k (suc n)) load = omega arith in
           rw z (r (next-above n h))
@@ -76,37 +76,40 @@ module _ (stack : List ℕ) (load : ℤ) where
   pub plate-in-its-band : inBandOf stack (plateOn stack load) load ≡ true
   unfolding endsOf
   plate-in-its-band =
-      let z : 0 + plateBy (endsFrom stack (length stack) 0) load ≡ plateBy (endsFrom stack (length stack) 0) load = omega arith in
-      rw z at (in-band-from (length stack) 0 (omega arith) first-above)
+      let m : ℕ = suc (length stack) in
+      let z : 0 + plateBy (endsFrom stack m 0) load ≡ plateBy (endsFrom stack m 0) load = omega arith in
+      rw z at (in-band-from m 0 (omega arith) first-above)
 
 length-ends : (stack : List ℕ) (k n : ℕ) → length (endsFrom stack k n) ≡ k
 unfolding endsFrom
 length-ends stack zero n = refl
 length-ends stack (suc k) n = ap suc (length-ends stack k (suc n))
 
-pub ends-many : (stack : List ℕ) → length (endsOf stack) ≡ length stack
+-- "m + 1 ends"
+pub ends-many : (stack : List ℕ) → length (endsOf stack) ≡ suc (length stack)
 unfolding endsOf
-ends-many stack = length-ends stack (length stack) 0
+ends-many stack = length-ends stack (suc (length stack)) 0
 
 -- ---- "every load is in exactly one band"
 
 module _ (stack : List ℕ) (ok : isStack stack ≡ true) (load : ℤ) where
   -- no load lies in a band and in a lower one
-  apart : (a b : ℕ) → a ≤ b → suc b ≤ length stack → inBandOf stack a load ≡ true → inBandOf stack (suc b) load ≡ true → ⊥
+  apart : (a b : ℕ) → a ≤ b → b ≤ length stack → inBandOf stack a load ≡ true → inBandOf stack (suc b) load ≡ true → ⊥
   unfolding inBandOf pastAbove
   apart a b l h p q =
-      let n : eqb a (length stack) ≡ false = ne-eqb a (length stack) (λ e. omega arith) in
-      let up = or-other (eqb a (length stack)) (leZ load (pos (endOf stack a))) n (and-right (pastAbove stack a load) _ p) in
+      let n : eqb a (suc (length stack)) ≡ false = ne-eqb a (suc (length stack)) (λ e. omega arith) in
+      let up = or-other (eqb a (suc (length stack))) (leZ load (pos (endOf stack a))) n (and-right (pastAbove stack a load) _ p) in
       let over = and-left (ltZ (pos (endOf stack b)) load) _ q in
       let e : a + (b - a) ≡ b = omega arith in
       let r = rw e at (ends-rise-to stack ok (b - a) a (omega arith)) in
       not-both (endOf stack a) (endOf stack b) load r up over
 
-  ordered : (a b : ℕ) → a < b → b ≤ length stack → inBandOf stack a load ≡ true → inBandOf stack b load ≡ true → ⊥
+  ordered : (a b : ℕ) → a < b → b ≤ suc (length stack) → inBandOf stack a load ≡ true → inBandOf stack b load ≡ true → ⊥
   ordered a zero l h p q = omega arith
-  ordered a (suc b) l h p q = apart a b (omega arith) h p q
+  ordered a (suc b) l h p q = apart a b (omega arith) (omega arith) p q
 
-  same-band : (a b : ℕ) → a ≤ length stack → b ≤ length stack → inBandOf stack a load ≡ true → inBandOf stack b load ≡ true → a ≡ b
+  same-band : (a b : ℕ) → a ≤ suc (length stack) → b ≤ suc (length stack) → inBandOf stack a load ≡ true → inBandOf stack b load ≡ true
+      → a ≡ b
   same-band a b h k p q = go (ltb a b) refl (ltb b a) refl
     where
       go : (s : Bool) → ltb a b ≡ s → (t : Bool) → ltb b a ≡ t → a ≡ b
@@ -115,13 +118,13 @@ module _ (stack : List ℕ) (ok : isStack stack ≡ true) (load : ℤ) where
       go false e false f = omega (arith, ltb-false a b e, ltb-false b a f)
 
 pub record OneBand (stack : List ℕ) (load : ℤ) : Type 0 where
-  pub within : plateOn stack load ≤ length stack
+  pub within : plateOn stack load ≤ suc (length stack)
   pub in-it : inBandOf stack (plateOn stack load) load ≡ true
-  pub only : (n : ℕ) → n ≤ length stack → inBandOf stack n load ≡ true → n ≡ plateOn stack load
+  pub only : (n : ℕ) → n ≤ suc (length stack) → inBandOf stack n load ≡ true → n ≡ plateOn stack load
 
 pub one-band : (stack : List ℕ) → isStack stack ≡ true → (load : ℤ) → OneBand stack load
 one-band stack ok load =
-    let w : plateOn stack load ≤ length stack = omega (arith, plate-within (endsOf stack) load, ends-many stack) in
+    let w : plateOn stack load ≤ suc (length stack) = omega (arith, plate-within (endsOf stack) load, ends-many stack) in
     let i = plate-in-its-band stack load in
     record {
       within = w;

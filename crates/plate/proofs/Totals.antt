@@ -5,7 +5,7 @@ use Prim.Native.Nat.{ℕ, zero, suc, _+_, _≤_, _<_}
 use native.Mathlib.Omega.{arith}
 use lib.ListN.{length, getD, set, drop}
 use lib.Seq.{drop-cons, drop-length}
-use Rattle.plate.specs.Plate.{total}
+use Rattle.plate.specs.Total.{total}
 
 pub place-total : (counts : List ℕ) (i : ℕ) → getD counts i 0 ≤ total counts
 unfolding total

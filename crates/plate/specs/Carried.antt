@@ -8,11 +8,9 @@ use lib.ListN.{length, getD, replicate}
 use Rattle.lift.specs.Limits.{loadOk}
 use Rattle.plate.specs.declared.Lookup.{Lookup}
 use Rattle.plate.specs.Stack.{plateOn}
+use Rattle.plate.specs.Plate.{twentyOf500}
 
 -- "We carry twenty plates of 500, then four of 250 over sixteen of 500."
-abbrev pub twentyOf500 : List ℕ
-twentyOf500 = replicate 20 500
-
 abbrev pub fourOf250Over16Of500 : List ℕ
 fourOf250Over16Of500 = replicate 4 250 ++ replicate 16 500
 

@@ -1,4 +1,5 @@
-pub mod Plate
+pub mod Total
 pub mod Stack
+pub mod Plate
 pub mod Carried
 pub mod Inner

@@ -12,19 +12,19 @@ ghost use Rattle.lift.specs.Limits.{loadOf, loadShift};
 ghost use Rattle.plate.specs.Plate.{plateOf, noCounts};
 ghost use Rattle.plate.specs.Carried.{lookup};
 
-pub const PLATES: usize = 21;
+pub const PLATES: usize = 22;
 // Ground 5: a load is past its limit.
 const LOAD_PAST_LIMIT: u8 = 5;
 // Ground 15: no stack is carried at this place.
 const NO_SUCH_STACK: u8 = 15;
 // The whole 512s in a load number its plate or the one below it: a band is 500 wide, and in twenty of them 512 falls behind by less
-// than half a band. With twenty 512s a load is past every end.
+// than half a band. With twenty-one 512s a load is past every end.
 const NEAR: u32 = 512;
 
-const PAST_ENDS: u32 = CODE_OF_ZERO + 20 * NEAR;
+const PAST_ENDS: u32 = CODE_OF_ZERO + 21 * NEAR;
 
-// It has no end.
-const LAST_PLATE: u8 = 20;
+// Its band has no end.
+const BEYOND_STACK: u8 = 21;
 
 // The answer of the lookup: 0 and the plate; 5 for a load past its limit, 15 for a place beyond the carried stacks.
 pub struct Lookup {
@@ -34,7 +34,7 @@ pub struct Lookup {
 
 // The plate of a load from zero on, by the end that the sticker has near it.
 fn plate_by_end(load: u32) -> u8
-    requires { ⌜ load < 10240 ⌝ }
+    requires { ⌜ load < 10752 ⌝ }
     ensures { λ r. ⌜ r ≡ plateOf (subℕ load 0) ⌝ }
 {
     let mut plate = load / NEAR;
@@ -47,13 +47,13 @@ fn plate_by_end(load: u32) -> u8
 
 // The plate of a load as stored that is below zero, or past all ends.
 fn far_plate(code: u32) -> u8
-    requires { ⌜ (leb loadShift code && ltb code 60241) ≡ false ⌝ }
+    requires { ⌜ (leb loadShift code && ltb code 60753) ≡ false ⌝ }
     ensures { λ r. ⌜ r ≡ plateOf (loadOf code) ⌝ }
 {
     if code < CODE_OF_ZERO {
         return 0;
     }
-    LAST_PLATE
+    BEYOND_STACK
 }
 
 // The plate of a load as stored.

@@ -1,5 +1,5 @@
 // The stacks that are carried, by their place in the list (W-205): up to which load the band of each plate goes, as `plate_ends` prints
-// it, plate 0 first, in units of 10 g. The last band has no end.
+// it, plate 0 first, in units of 10 g. The band beyond the stack has no end.
 use lift::CODE_OF_ZERO;
 ghost use mathlib.Core.Path.{_≡_};
 ghost use Prim.Native.Nat.{_-_, _≤_, _<_};
@@ -10,8 +10,8 @@ ghost use Rattle.lift.specs.Limits.{loadOf, loadShift};
 ghost use Rattle.plate.specs.Stack.{endsOf, plateBy, plateOn};
 ghost use Rattle.plate.specs.Carried.{carried};
 
-// Place 0: the sticker on the frame (W-204).
-pub const TWENTY_OF_500: [u32; 20] = [
+// Place 0: the sticker on the frame (W-204), and the last end (W-206).
+pub const TWENTY_OF_500: [u32; 21] = [
     250,
     750,
     1250,
@@ -32,10 +32,11 @@ pub const TWENTY_OF_500: [u32; 20] = [
     8750,
     9250,
     9750,
+    10250,
 ];
 
 // Place 1.
-pub const FOUR_OF_250_OVER_16_OF_500: [u32; 20] = [
+pub const FOUR_OF_250_OVER_16_OF_500: [u32; 21] = [
     125,
     375,
     625,
@@ -56,6 +57,7 @@ pub const FOUR_OF_250_OVER_16_OF_500: [u32; 20] = [
     7750,
     8250,
     8750,
+    9250,
 ];
 
 // How many stacks are carried.
@@ -63,7 +65,7 @@ pub const CARRIED: u64 = 2;
 
 // The plate by the ends of a stack's bands, of a load from zero on.
 fn plate_by(ends: &[u32], load: u32) -> u8
-    requires { ⌜ length (now ends) ≤ 24 ⌝ }
+    requires { ⌜ length (now ends) ≤ 25 ⌝ }
     ensures { λ r. ⌜ r ≡ plateBy (now (ends .entry)) (subℕ load 0) ⌝ }
 {
     let mut plate: usize = 0;
@@ -87,13 +89,13 @@ fn from_zero(code: u32) -> u32
 }
 
 // Each table is the rule's.
-fn ends_at_0() -> [u32; 20]
+fn ends_at_0() -> [u32; 21]
     ensures { λ r. ⌜ r ≡ endsOf (getD carried 0 []) ⌝ }
 {
     TWENTY_OF_500
 }
 
-fn ends_at_1() -> [u32; 20]
+fn ends_at_1() -> [u32; 21]
     ensures { λ r. ⌜ r ≡ endsOf (getD carried 1 []) ⌝ }
 {
     FOUR_OF_250_OVER_16_OF_500

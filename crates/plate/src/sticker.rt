@@ -5,7 +5,7 @@ ghost use Prim.Native.Nat.{_+_, _*_, _≤_};
 
 // Each place is written out, because a table that is read at a place known only later is laid out anew for each lift.
 pub fn upper_end(plate: u32) -> u32
-    requires { ⌜ plate ≤ 19 ⌝ }
+    requires { ⌜ plate ≤ 20 ⌝ }
     ensures { λ r. ⌜ r ≡ 500 * plate + 250 ⌝ }
 {
     let ends = TWENTY_OF_500;
@@ -30,6 +30,7 @@ pub fn upper_end(plate: u32) -> u32
         17 => ends[17],
         18 => ends[18],
         19 => ends[19],
+        20 => ends[20],
         _ => 0,
     }
 }

@@ -1,6 +1,6 @@
--- A tally's counts are 21 and have a bound, for any chips, any state and any arguments: where it is refused they are zeros, where it
+-- A tally's counts are 22 and have a bound, for any chips, any state and any arguments: where it is refused they are zeros, where it
 -- is accepted they count the rows of a search, which are at most 320 for each slot and for the open segment. Assumes nothing.
-use mathlib.Core.Path.{_≡_, refl}
+use mathlib.Core.Path.{_≡_, refl, ap}
 use mathlib.Core.Bool.{Bool, true, false, cond, not, _&&_}
 use mathlib.Core.Option.{Option, none, some}
 use mathlib.Core.List.{List}
@@ -13,7 +13,8 @@ use borrow.Author.Tests.{eqb-true, eqb-false, leb-true, not-false}
 use Rattle.codec.proofs.Truth.{and-left, and-right}
 use Rattle.lift.specs.Limits.{timeOk}
 use Rattle.lift.specs.Record.{codeAt}
-use Rattle.plate.specs.Plate.{noCounts, countsOf, total}
+use Rattle.plate.specs.Total.{total}
+use Rattle.plate.specs.Plate.{noCounts, countsOf}
 use Rattle.plate.proofs.Counts.{length-counts, total-none, counts-total}
 use Rattle.found.specs.Found.{foundRows, mostFound}
 use Rattle.tally.specs.Answers.{TallyAnswer, tallyAnswer, rowCodes}
@@ -97,8 +98,13 @@ module _ (w : World) (slots t1 t2 : ℕ) where
       tally-cases (λ a. total (a .counts) ≤ 1311040) (λ n h. omega (arith, total-none))
       (λ z rows e. omega (arith, counted-most z rows e, fits z .few))
 
-  pub tally-length : length (tallyOutcome w slots t1 t2 .counts) ≡ 21
-  tally-length = tally-cases (λ a. length (a .counts) ≡ 21) (λ n h. refl) (λ z rows e. length-counts (rowCodes rows))
+  -- as the code has an answer
+  pub counts-fit : {n : ℕ} {counts : List ℕ} → _≡_ {A = TallyAnswer} (record { number = n; counts = counts }) (tallyOutcome w slots t1 t2)
+      → total counts ≤ 1311040
+  counts-fit is = omega (arith, ap (λ (a : TallyAnswer). total (a .counts)) is, tally-fits)
+
+  pub tally-length : length (tallyOutcome w slots t1 t2 .counts) ≡ 22
+  tally-length = tally-cases (λ a. length (a .counts) ≡ 22) (λ n h. refl) (λ z rows e. length-counts (rowCodes rows))
 
   -- the times of an accepted tally are within their limits
   pub tally-window : tallyOutcome w slots t1 t2 .number ≡ 0 → (t1 ≤ 999999999999999) × (t2 ≤ 999999999999999)

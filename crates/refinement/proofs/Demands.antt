@@ -5,12 +5,15 @@ use mathlib.Core.Bool.{Bool, true, false, cond, not, _&&_, _||_}
 use mathlib.Core.List.{List, [], _∷_, map}
 use Prim.Native.Nat.{ℕ, _*_, _/_, _≤_}
 use native.Mathlib.Omega.{arith}
+use borrow.Author.Tests.{eq-eqb}
 use lib.Dec.{eqb, leb, ltb}
-use lib.ListN.{length}
+use lib.ListN.{length, getD}
 use lib.Signed.{ltZ}
 use Rattle.form.specs.declared.Form.{Form}
 use Rattle.lift.specs.Limits.{timeOk, loadOk}
-use Rattle.plate.specs.Plate.{noCounts, countsOf, total}
+use Rattle.plate.specs.Total.{total}
+use Rattle.plate.specs.Plate.{countAt, countsOf, noCounts}
+use Rattle.plate.proofs.Counts.{length-counts, count-place}
 use Rattle.tally.specs.Answers.{TallyAnswer}
 use Rattle.store.specs.World.{World}
 use Rattle.store.specs.Calls.{Outcome, formatOutcome}
@@ -180,6 +183,15 @@ module _ (v : Form) (slots : ℕ) (least : 2 ≤ slots) (most : slots ≤ 4096) 
           number = Paper.tallyNumber l k t1 t2;
           counts = cond (eqb (Paper.tallyNumber l k t1 t2) 0) (countsOf (codes (Paper.allLoads l t1 t2))) noCounts;
         }) (here .log)
+
+    -- an accepted one has 22 counts, of each plate how many of these lifts have it
+    pub tally-by-plate : (k t1 t2 : ℕ) → Paper.tallyNumber log-end k t1 t2 ≡ 0 → (length (tallyOutcome at-end k t1 t2 .counts) ≡ 22)
+        × ((n : ℕ) → n ≤ 21 → getD (tallyOutcome at-end k t1 t2 .counts) n 0 ≡ countAt n (codes (Paper.allLoads log-end t1 t2)))
+    tally-by-plate k t1 t2 z =
+        let lifts = codes (Paper.allLoads log-end t1 t2) in
+        let e : tallyOutcome at-end k t1 t2 .counts ≡ countsOf lifts =
+        ap (λ (a : TallyAnswer). a .counts) (tally-counts k t1 t2) ∙ ap (λ t. cond t (countsOf lifts) noCounts) (eq-eqb _ 0 z) in
+        rw e (length-counts lifts, λ n h. count-place lifts n h)
 
     -- it counts at most 320 lifts for each slot
     pub tally-held : (k t1 t2 : ℕ) → total (tallyOutcome at-end k t1 t2 .counts) ≤ slots * 320

@@ -9,7 +9,8 @@ use lib.Dec.{eqb}
 use lib.IntN.{ℤ, pos, negsuc}
 use lib.ListN.{length, length-append, length-map}
 use Rattle.lift.specs.Limits.{stored}
-use Rattle.plate.specs.Plate.{noCounts, countsOf, total}
+use Rattle.plate.specs.Total.{total}
+use Rattle.plate.specs.Plate.{noCounts, countsOf}
 use Rattle.plate.proofs.Counts.{total-none, counts-total}
 use Rattle.tally.specs.Answers.{TallyAnswer}
 use Rattle.questions.specs.Queries.{tallyOutcome}

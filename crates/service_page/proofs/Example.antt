@@ -13,7 +13,7 @@ spaces n l = replicate n 32 ++ l
 -- a window of three lifts, two of them on plate 5
 pub page-printed :
     (heading 1000 3000 ≡ spaces 11 (49 ∷ 48 ∷ 48 ∷ 48 ∷ spaces 21 (51 ∷ 48 ∷ 48 ∷ 48 ∷ [])))
-    × (plateLine 3 20 0 ≡ spaces 2 (50 ∷ 48 ∷ spaces 8 (48 ∷ spaces 4 (48 ∷ spaces 22 []))))
+    × (plateLine 3 21 0 ≡ spaces 2 (50 ∷ 49 ∷ spaces 8 (48 ∷ spaces 4 (48 ∷ spaces 22 []))))
     × (plateLine 3 5 2 ≡ spaces 3 (53 ∷ spaces 8 (50 ∷ spaces 3 (54 ∷ 54 ∷ spaces 22 []))))
     × (totalLine 3 ≡ spaces 12 (51 ∷ spaces 27 []))
 unfolding digits digitsWithin justified repeated heading percentage plateLine totalLine

@@ -12,7 +12,7 @@ use lib.ListN.{length, getD, drop, length-append}
 use lib.Seq.{take-at, getD-at}
 use Rattle.codec.specs.Area.{part}
 use Rattle.codec.proofs.Areas.{length-repeated, part-append-left, part-append-right, part-all}
-use Rattle.plate.specs.Plate.{total}
+use Rattle.plate.specs.Total.{total}
 use Rattle.plate.proofs.Totals.{place-total, total-from, total-past}
 use Rattle.lines.specs.Columns.{fieldIn, valueOf}
 use Rattle.answers.specs.Printed.{digits, spaces, number}

@@ -7,9 +7,10 @@ use borrow.Author.Tests.{ne-eqb}
 use lib.ListN.{length, getD, length-append}
 use Rattle.codec.specs.Area.{splice}
 use Rattle.codec.proofs.Areas.{length-repeated, splice-next}
-use Rattle.plate.specs.Plate.{total}
+use Rattle.plate.specs.Total.{total}
+use Rattle.plate.specs.Plate.{plates}
 use Rattle.answers.specs.Printed.{spaces, number}
-use Rattle.service_page.specs.Page.{heading, percentage, plateLine, plateLines, totalLine, pageLines, textOf, pageOf}
+use Rattle.service_page.specs.Page.{pageBytes, heading, percentage, plateLine, plateLines, totalLine, pageLines, textOf, pageOf}
 use Rattle.answers.proofs.Justified.{length-justified}
 use Rattle.answers.proofs.Printing.{splice-none}
 
@@ -137,23 +138,22 @@ page-text t1 t2 counts =
     (ap (λ (l : List ℕ). textOf plates ++ l) (sym (append-nil last)) ∙ sym (text-append plates (totalLine (total counts) ∷ [])))
 
 -- heading, plates and total
-pub page-written : (s : List ℕ) (at t1 t2 : ℕ) (counts : List ℕ) → length counts ≡ 21 → at + 943 ≤ length s
-    → splice (splice (splice s at (heading t1 t2 ++ (10 ∷ []))) (at + 41) (textOf (plateLines counts 21))) (at + 902)
+pub page-written : (s : List ℕ) (at t1 t2 : ℕ) (counts : List ℕ) → length counts ≡ plates → at + pageBytes ≤ length s
+    → splice (splice (splice s at (heading t1 t2 ++ (10 ∷ []))) (at + 41) (textOf (plateLines counts plates))) (at + 943)
     (totalLine (total counts) ++ (10 ∷ []))
     ≡ splice s at (pageOf t1 t2 counts)
 page-written s at t1 t2 counts n h =
     let first : List ℕ = heading t1 t2 ++ (10 ∷ []) in
-    let plates : List ℕ = textOf (plateLines counts 21) in
+    let lines : List ℕ = textOf (plateLines counts plates) in
     let last : List ℕ = totalLine (total counts) ++ (10 ∷ []) in
     let a : length first ≡ 41 = length-append (heading t1 t2) (10 ∷ []) ∙ omega (arith, length-heading t1 t2) in
-    let b : length (first ++ plates) ≡ 902 = length-append first plates ∙ omega (arith, length-plates counts 21) in
+    let b : length (first ++ lines) ≡ 943 = length-append first lines ∙ omega (arith, length-plates counts plates) in
     let e : first ++ textOf (plateLines counts (length counts)) ++ last ≡ pageOf t1 t2 counts = page-text t1 t2 counts in
-    ap (λ (t : List ℕ). splice t (at + 902) last) (splice-next s at first (at + 41) plates (omega arith) (omega arith))
-    ∙ splice-next s at (first ++ plates) (at + 902) last (omega arith) (omega arith)
+    ap (λ (t : List ℕ). splice t (at + 943) last) (splice-next s at first (at + 41) lines (omega arith) (omega arith))
+    ∙ splice-next s at (first ++ lines) (at + 943) last (omega arith) (omega arith)
     ∙ ap (splice s at) (rw n at e)
 
--- a page of 21 plates has 23 lines
-pub length-page : (t1 t2 : ℕ) (counts : List ℕ) → length counts ≡ 21 → length (pageOf t1 t2 counts) ≡ 943
+pub length-page : (t1 t2 : ℕ) (counts : List ℕ) → length counts ≡ plates → length (pageOf t1 t2 counts) ≡ pageBytes
 length-page t1 t2 counts n =
     let a = length-heading t1 t2 in
     let b = length-total (total counts) in

@@ -1,10 +1,11 @@
 -- The service page (document 02, W-201): a tally, "a page 40 columns wide, numbers right-justified". Assumes nothing.
 use mathlib.Core.Bool.{cond}
 use mathlib.Core.List.{List, [], _∷_, _++_}
-use Prim.Native.Nat.{ℕ, zero, suc, _*_, _/_}
+use Prim.Native.Nat.{ℕ, zero, suc, _+_, _*_, _/_}
 use lib.Dec.{eqb}
 use lib.ListN.{length, getD}
-use Rattle.plate.specs.Plate.{total}
+use Rattle.plate.specs.Total.{total}
+use Rattle.plate.specs.Plate.{plates}
 use Rattle.answers.specs.Printed.{spaces, number}
 
 -- "a heading line with the window's two times, each 15 columns, ten spaces between"
@@ -36,6 +37,10 @@ pageLines t1 t2 counts = heading t1 t2 ∷ (plateLines counts (length counts) ++
 unfoldable pub textOf : List (List ℕ) → List ℕ
 textOf [] = []
 textOf (l ∷ ls) = l ++ (10 ∷ []) ++ textOf ls
+
+-- the bytes of a page: the heading, a line for each plate and the total, each with its line feed
+abbrev pub pageBytes : ℕ
+pageBytes = 41 * (plates + 2)
 
 -- the page
 unfoldable pub pageOf : ℕ → ℕ → List ℕ → List ℕ

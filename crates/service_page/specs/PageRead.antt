@@ -6,7 +6,7 @@ use mathlib.Core.List.{List, [], _∷_, _++_, map}
 use Prim.Native.Nat.{ℕ, _+_, _-_, _≤_, _<_}
 use lib.ListN.{length, getD, take, drop}
 use Rattle.codec.specs.Area.{part}
-use Rattle.plate.specs.Plate.{total}
+use Rattle.plate.specs.Total.{total}
 use Rattle.lines.specs.declared.Field.the-variants.{Digits}
 use Rattle.lines.specs.Columns.{fieldIn, valueOf}
 use Rattle.answers.specs.Printed.{digits, spaces}

@@ -5,14 +5,20 @@ use lines::TIME_COLUMNS;
 use plate::PLATES;
 ghost use mathlib.Core.Path.{_≡_};
 ghost use mathlib.Core.List.{[], _∷_, _++_};
-ghost use Prim.Native.Nat.{_+_, _^_, _≤_, _<_};
+ghost use Prim.Native.Nat.{_+_, _*_, _^_, _≤_, _<_};
 ghost use lib.ListN.{length};
 ghost use Rattle.codec.specs.Area.{splice};
-ghost use Rattle.plate.specs.Plate.{plates, total};
+ghost use Rattle.plate.specs.Total.{total};
+ghost use Rattle.plate.specs.Plate.{plates};
 ghost use Rattle.service_page.specs.Page as Page;
 
 // "a page 40 columns wide", and a line feed
 const LINE_BYTES: usize = 41;
+
+// After the heading and a line for each plate.
+const TOTAL_AT: usize = LINE_BYTES * (PLATES + 1);
+
+pub const PAGE_BYTES: usize = TOTAL_AT + LINE_BYTES;
 
 fn end_line(s: &mut [u8], at: usize)
     requires { ⌜ at + 41 ≤ length (now s) ⌝ }
@@ -58,7 +64,7 @@ fn put_plate(s: &mut [u8], at: usize, all: u64, plate: u64, count: u64)
 
 // "one line for each plate, heaviest first"
 fn put_plates(s: &mut [u8], at: usize, counts: [u64; PLATES], all: u64)
-    requires { ⌜ (at + 861 ≤ length (now s)) × ((all ≡ total counts) × (total counts < 2 ^ 57)) ⌝ }
+    requires { ⌜ (at + 41 * plates ≤ length (now s)) × ((all ≡ total counts) × (total counts < 2 ^ 57)) ⌝ }
     ensures { λ _. ⌜ now (s .exit) ≡ splice (now (s .entry)) at (Page.textOf (Page.plateLines counts plates)) ⌝ }
 {
     let mut to = at;
@@ -98,11 +104,11 @@ fn total_of(counts: [u64; PLATES]) -> u64
 
 // The page of a window and its counts, from `at`. The percentages want room for 100 times a count.
 pub fn put_page(s: &mut [u8], at: usize, t1: u64, t2: u64, counts: [u64; PLATES])
-    requires { ⌜ (at + 943 ≤ length (now s)) × (total counts < 2 ^ 57) ⌝ }
+    requires { ⌜ (at + Page.pageBytes ≤ length (now s)) × (total counts < 2 ^ 57) ⌝ }
     ensures { λ _. ⌜ now (s .exit) ≡ splice (now (s .entry)) at (Page.pageOf t1 t2 counts) ⌝ }
 {
     let all = total_of(counts);
     put_heading(s, at, t1, t2);
     put_plates(s, at + LINE_BYTES, counts, all);
-    put_total(s, at + 902, all);
+    put_total(s, at + TOTAL_AT, all);
 }

@@ -17,12 +17,12 @@ const LETTER_G: u8 = 71;
 const LETTER_Q: u8 = 81;
 
 const LETTER_T: u8 = 84;
-// Lines with their line feeds: letter and number; these and a count; these and 21 counts; a lift.
+// Lines with their line feeds: letter and number; these and a count; these and 22 counts; a lift.
 const HEAD_BYTES: usize = 5;
 
 const COUNT_BYTES: usize = 12;
 
-const COUNTS_BYTES: usize = 152;
+const COUNTS_BYTES: usize = 159;
 
 const LIFT_BYTES: usize = 24;
 

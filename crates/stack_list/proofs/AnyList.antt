@@ -1,4 +1,4 @@
--- The generator over any list of stacks within the sizes (document 02, W-205): its text is read as the list, and what is printed for it
+-- The generator over any list of stacks within the sizes (document 02, W-205 and W-206): its text is read as the list, and what is printed for it
 -- are the rule's ends, each whole in its six columns; a text longer than every list is refused. Assumes nothing.
 use mathlib.Core.Path.{_≡_, refl, ap, _∙_}
 use mathlib.Core.Bool.{Bool, true, false, cond, _&&_}
@@ -91,13 +91,14 @@ plates-small (p ∷ ps) a =
     let m = plate-sizes p (and-left (isPlate p) (allPlates ps) a) in
     and-both _ _ (lt-ltb p 1000000 (omega arith)) (plates-small ps (and-right (isPlate p) (allPlates ps) a))
 
-ends-small : (ps : List ℕ) (sum : ℕ) → allPlates ps ≡ true → sum + 5000 * length ps < 1000000 → allSmall (running sum ps) ≡ true
+ends-small : (ps : List ℕ) (sum above : ℕ) → above ≤ 5000 → allPlates ps ≡ true → sum + 5000 * length ps < 900000
+    → allSmall (running sum above ps) ≡ true
 unfolding allPlates allSmall running
-ends-small [] sum a h = refl
-ends-small (p ∷ ps) sum a h =
+ends-small [] sum above l a h = and-both _ _ (lt-ltb (sum + above / 2) 1000000 (omega arith)) refl
+ends-small (p ∷ ps) sum above l a h =
     let m = plate-sizes p (and-left (isPlate p) (allPlates ps) a) in
     and-both _ _ (lt-ltb (sum + p / 2) 1000000 (omega arith))
-    (ends-small ps (sum + p) (and-right (isPlate p) (allPlates ps) a) (omega arith))
+    (ends-small ps (sum + p) p (m .1) (and-right (isPlate p) (allPlates ps) a) (omega arith))
 
 lists-small : (stacks : List (List ℕ)) → allStacks stacks ≡ true → (allSmalls stacks ≡ true) × (allSmalls (map endsOf stacks) ≡ true)
 unfolding allStacks allSmalls
@@ -105,7 +106,7 @@ lists-small [] a = (refl, refl)
 lists-small (stack ∷ stacks) a =
     let s = stack-sizes stack (and-left (isStack stack) (allStacks stacks) a) in
     let r = lists-small stacks (and-right (isStack stack) (allStacks stacks) a) in
-    let e = ends-small stack 0 (s .plates) (omega (arith, s .most)) in
+    let e = ends-small stack 0 0 (omega arith) (s .plates) (omega (arith, s .most)) in
     (and-both _ _ (plates-small stack (s .plates)) (r .0), rw (ends-running stack) (and-both _ _ e (r .1)))
 
 -- ---- any list of stacks

@@ -18,7 +18,7 @@ use Rattle.answers.proofs.Justified.{length-justified}
 use Rattle.answers.proofs.Printing.{byte-stored}
 use Rattle.stack_list.specs.ListForm.{linesOf, isBlank, atTop, byStacks, plateIn, isList, stacksIn, ended, further, textOf, listText}
 use Rattle.stack_list.specs.Generated.{refusal}
-use Rattle.stack_list.specs.Inner.Turns.{listFrom, endLine, sumOn, endLines}
+use Rattle.stack_list.specs.Inner.Turns.{listFrom, endLine, turnLines, sumOn, endLines}
 use Rattle.stack_list.proofs.Cut.{some-stack}
 use Rattle.stack_list.proofs.Judged.{blank-goes-on, plate-goes-on, judged}
 
@@ -27,31 +27,47 @@ use Rattle.stack_list.proofs.Judged.{blank-goes-on, plate-goes-on, judg
 length-number : (v : ℕ) → length (number 6 v) ≡ 6
 length-number v = length-justified 6 _
 
-module _ (s : List ℕ) (at sum n : ℕ) (h : at + 7 ≤ length s) where
-  pub blank-put : n ≡ 0 → (set s at 10 ≡ splice s at (endLine sum n)) × (at + 1 ≡ at + length (endLine sum n))
-  unfolding endLine
-  blank-put z = rw (eq-eqb n 0 z) (byte-stored s at 10 (omega arith), refl)
+line-long : (end : ℕ) → length (endLine end) ≡ 7
+unfolding endLine
+line-long end = let l = length-number end in simp length-append (omega arith)
 
-  pub end-put : (n ≡ 0 → ⊥) → (s' : List ℕ) → s' ≡ splice s at (number 6 (sum + n / 2)) → length s' ≡ length s
-      → (set s' (at + 6) 10 ≡ splice s at (endLine sum n)) × (at + 6 + 1 ≡ at + length (endLine sum n))
-  unfolding endLine
-  end-put z s' e k =
-      let l = length-number (sum + n / 2) in
-      let m : length (number 6 (sum + n / 2) ++ (10 ∷ [])) ≡ 7 = simp length-append (omega arith) in
-      rw (ne-eqb n 0 z) (
-        byte-stored s' (at + 6) 10 (omega arith)
-            ∙ ap (λ (t : List ℕ). splice t (at + 6) (10 ∷ [])) e
-            ∙ splice-next s at (number 6 (sum + n / 2)) (at + 6) (10 ∷ []) (omega arith) (omega arith),
+pub end-put : (s : List ℕ) (at end : ℕ) → at + 7 ≤ length s → (s' : List ℕ) → s' ≡ splice s at (number 6 end) → length s' ≡ length s
+    → set s' (at + 6) 10 ≡ splice s at (endLine end)
+unfolding endLine
+end-put s at end h s' e k =
+    let l = length-number end in
+    byte-stored s' (at + 6) 10 (omega arith)
+    ∙ ap (λ (t : List ℕ). splice t (at + 6) (10 ∷ [])) e
+    ∙ splice-next s at (number 6 end) (at + 6) (10 ∷ []) (omega arith) (omega arith)
+
+-- ---- the lines of a turn
+
+module _ (s s' : List ℕ) (at at' sum above n : ℕ) (h : at + 8 ≤ length s) (r : at' ≡ at + 7) where
+  pub blank-put : n ≡ 0 → s' ≡ splice s at (endLine (sum + above / 2)) → length s' ≡ length s
+      → (set s' at' 10 ≡ splice s at (turnLines sum above n)) × (at' + 1 ≡ at + length (turnLines sum above n))
+  unfolding turnLines
+  blank-put z e k =
+      let l = line-long (sum + above / 2) in
+      let m : length (endLine (sum + above / 2) ++ (10 ∷ [])) ≡ 8 = simp length-append (omega arith) in
+      rw (eq-eqb n 0 z) (
+        byte-stored s' at' 10 (omega arith)
+            ∙ ap (λ (t : List ℕ). splice t at' (10 ∷ [])) e
+            ∙ splice-next s at (endLine (sum + above / 2)) at' (10 ∷ []) (omega arith) (omega arith),
         omega arith,
       )
 
-line-most : (sum n : ℕ) → length (endLine sum n) ≤ 7
-unfolding endLine
-line-most sum n = go (eqb n 0)
+  pub plate-put : (n ≡ 0 → ⊥) → s' ≡ splice s at (endLine (sum + n / 2))
+      → (s' ≡ splice s at (turnLines sum above n)) × (at' ≡ at + length (turnLines sum above n))
+  unfolding turnLines
+  plate-put z e = let l = line-long (sum + n / 2) in rw (ne-eqb n 0 z) (e, omega arith)
+
+lines-most : (sum above n : ℕ) → length (turnLines sum above n) ≤ 8
+unfolding turnLines
+lines-most sum above n = go (eqb n 0)
   where
-    go : (t : Bool) → length (cond t (10 ∷ []) (number 6 (sum + n / 2) ++ (10 ∷ []))) ≤ 7
-    go true = omega arith
-    go false = let l = length-number (sum + n / 2) in simp length-append (omega arith)
+    go : (t : Bool) → length (cond t (endLine (sum + above / 2) ++ (10 ∷ [])) (endLine (sum + n / 2))) ≤ 8
+    go true = let l = line-long (sum + above / 2) in simp length-append (omega arith)
+    go false = let l = line-long (sum + n / 2) in omega arith
 
 sum-most : (sum n : ℕ) → sumOn sum n ≤ sum + n
 sum-most sum n = go (eqb n 0)
@@ -82,48 +98,58 @@ refusal-put s h s' e k =
     ∙ splice-next s 0 (49 ∷ 53 ∷ []) 2 (10 ∷ []) refl (omega arith) in
     (simp length-set (omega arith), rw p (take-splice s 0 refusal (omega arith)))
 
-line-on : (s : List ℕ) (at sum i : ℕ) (ns : List ℕ) → i < length ns → at + 7 ≤ length s
-    → take (at + length (endLine sum (getD ns i 0))) (splice s at (endLine sum (getD ns i 0)))
-    ++ endLines (sumOn sum (getD ns i 0)) (drop (i + 1) ns)
-    ≡ take at s ++ endLines sum (drop i ns)
+lines-on : (s : List ℕ) (at sum above i : ℕ) (ns : List ℕ) → i < length ns → at + 8 ≤ length s
+    → take (at + length (turnLines sum above (getD ns i 0))) (splice s at (turnLines sum above (getD ns i 0)))
+    ++ endLines (sumOn sum (getD ns i 0)) (getD ns i 0) (drop (i + 1) ns)
+    ≡ take at s ++ endLines sum above (drop i ns)
 unfolding endLines
-line-on s at sum i ns h k =
+lines-on s at sum above i ns h k =
     let e : i + 1 ≡ suc i = omega arith in
-    let m = line-most sum (getD ns i 0) in
-    rw (e, drop-cons ns i 0 h, take-splice s at (endLine sum (getD ns i 0)) (omega arith))
-    (append-assoc (take at s) (endLine sum (getD ns i 0)) _)
+    let m = lines-most sum above (getD ns i 0) in
+    rw (e, drop-cons ns i 0 h, take-splice s at (turnLines sum above (getD ns i 0)) (omega arith))
+    (append-assoc (take at s) (turnLines sum above (getD ns i 0)) _)
 
 -- where the loop stands: what is printed, with the lines left, is the whole
-pub record Printed (numbers first out : List ℕ) (sum at i : ℕ) : Type 0 where
+pub record Printed (numbers first out : List ℕ) (sum above at i : ℕ) : Type 0 where
   pub within : i ≤ length numbers
   pub same : length out ≡ length first
-  pub room : at ≤ 7 * i
+  pub room : at ≤ 8 * i
   pub small : sum ≤ 4294967296 * i
-  pub whole : take at out ++ endLines sum (drop i numbers) ≡ endLines 0 numbers
+  pub light : above < 4294967296
+  pub whole : take at out ++ endLines sum above (drop i numbers) ≡ endLines 0 0 numbers
 
-module _ (numbers first out : List ℕ) (sum at i : ℕ) (v : Printed numbers first out sum at i) where
-  pub printed-on : i < length numbers → 7 * length numbers ≤ length first → getD numbers i 0 < 4294967296 → (out' : List ℕ) (sum' at' : ℕ)
-      → out' ≡ splice out at (endLine sum (getD numbers i 0)) → at' ≡ at + length (endLine sum (getD numbers i 0))
+module _ (numbers first out : List ℕ) (sum above at i : ℕ) (v : Printed numbers first out sum above at i)
+    (r : 8 * length numbers + 7 ≤ length first) where
+  pub printed-on : i < length numbers → getD numbers i 0 < 4294967296 → (out' : List ℕ) (sum' at' : ℕ)
+      → out' ≡ splice out at (turnLines sum above (getD numbers i 0)) → at' ≡ at + length (turnLines sum above (getD numbers i 0))
       → sum' ≡ sumOn sum (getD numbers i 0)
-      → Printed numbers first out' sum' at' (i + 1)
-  printed-on h r n out' sum' at' p q s =
-      let m = line-most sum (getD numbers i 0) in
+      → Printed numbers first out' sum' (getD numbers i 0) at' (i + 1)
+  printed-on h n out' sum' at' p q s =
+      let m = lines-most sum above (getD numbers i 0) in
       let k = sum-most sum (getD numbers i 0) in
-      let w : at + 7 ≤ length out = omega (arith, v .room, v .same) in
-      let l = length-splice out at (endLine sum (getD numbers i 0)) (omega arith) in
+      let w : at + 8 ≤ length out = omega (arith, v .room, v .same) in
+      let l = length-splice out at (turnLines sum above (getD numbers i 0)) (omega arith) in
       record {
         within = omega arith;
         same = ap length p ∙ l ∙ v .same;
         room = omega (arith, v .room);
         small = omega (arith, v .small);
-        whole = rw (p, q, s) (line-on out at sum i numbers h w ∙ v .whole);
+        light = n;
+        whole = rw (p, q, s) (lines-on out at sum above i numbers h w ∙ v .whole);
       }
 
-  pub printed-all : length numbers ≤ i → 7 * length numbers ≤ length first → (at ≤ length out) × (take at out ≡ endLines 0 numbers)
+  -- at the end the last end of the last stack
+  pub printed-all : length numbers ≤ i → (out' : List ℕ) (at' : ℕ) → out' ≡ splice out at (endLine (sum + above / 2)) → at' ≡ at + 7
+      → (at' ≤ length out') × (take at' out' ≡ endLines 0 0 numbers)
   unfolding endLines
-  printed-all h r =
+  printed-all h out' at' p q =
       let d : drop i numbers ≡ [] = drop-of-length-le numbers h in
-      (omega (arith, v .room, v .same, v .within), sym (append-nil (take at out)) ∙ (rw d at (v .whole)))
+      let e = line-long (sum + above / 2) in
+      let w : at + 7 ≤ length out = omega (arith, v .room, v .same, v .within) in
+      let l = length-splice out at (endLine (sum + above / 2)) (omega arith) in
+      let t = take-splice out at (endLine (sum + above / 2)) (omega arith) in
+      let z : at + length (endLine (sum + above / 2)) ≡ at + 7 = omega arith in
+      rw (p, q) (omega arith, (rw z at t) ∙ (rw d at (v .whole)))
 
 -- ---- all lines
 
@@ -141,42 +167,49 @@ list-some ((b ∷ l) ∷ ls) a n e =
     let m = plate-sizes (plateIn (b ∷ l)) (g .sized) in
     (omega arith, list-some ls a (suc n) (g .rest))
 
--- the ends of lines by stacks, the first stack under plates of this sum
-abbrev textUnder : ℕ → List (List (List ℕ)) → List ℕ
-textUnder sum [] = []
-textUnder sum (g ∷ gs) =
-    ended (map (number 6) (running sum (map plateIn g))) ++ further (map (map (number 6)) (map endsOf (map (map plateIn) gs)))
+-- the ends of lines by stacks, the first stack under plates of this sum, the lowest of them `above`
+abbrev textUnder : ℕ → ℕ → List (List (List ℕ)) → List ℕ
+textUnder sum above [] = []
+textUnder sum above (g ∷ gs) =
+    ended (map (number 6) (running sum above (map plateIn g))) ++ further (map (map (number 6)) (map endsOf (map (map plateIn) gs)))
 
-printed-under : (ls : List (List ℕ)) (sum : ℕ) → EachSome ls → endLines sum (map plateIn ls) ≡ textUnder sum (byStacks ls)
-unfolding endLines endLine byStacks isBlank atTop ended further running readFrom
-printed-under [] sum each = refl
-printed-under ([] ∷ ls) sum each = go (byStacks ls) (some-stack ls) (printed-under ls 0 each)
+printed-under : (ls : List (List ℕ)) (sum above : ℕ) → EachSome ls
+    → endLines sum above (map plateIn ls) ≡ textUnder sum above (byStacks ls)
+unfolding endLines turnLines endLine byStacks isBlank atTop ended further running readFrom
+printed-under [] sum above each = sym (append-nil (number 6 (sum + above / 2) ++ (10 ∷ [])))
+printed-under ([] ∷ ls) sum above each = go (byStacks ls) (some-stack ls) (printed-under ls 0 0 each)
   where
-    go : (G : List (List (List ℕ))) → 0 < length G → endLines 0 (map plateIn ls) ≡ textUnder 0 G
-        → 10 ∷ endLines 0 (map plateIn ls) ≡ textUnder sum ([] ∷ G)
+    last : List ℕ
+    last = number 6 (sum + above / 2) ++ (10 ∷ [])
+
+    go : (G : List (List (List ℕ))) → 0 < length G → endLines 0 0 (map plateIn ls) ≡ textUnder 0 0 G
+        → (last ++ (10 ∷ [])) ++ endLines 0 0 (map plateIn ls) ≡ textUnder sum above ([] ∷ G)
     go [] h e = absurd (omega arith)
-    go (g ∷ gs) h e = rw (ends-running (map plateIn g)) (ap (λ (t : List ℕ). 10 ∷ t) e)
-printed-under ((b ∷ l) ∷ ls) sum each =
-    go (byStacks ls) (some-stack ls) (printed-under ls (sum + plateIn (b ∷ l)) (each .1))
+    go (g ∷ gs) h e =
+        rw (ends-running (map plateIn g))
+        (append-assoc last (10 ∷ []) (endLines 0 0 (map plateIn ls)) ∙ ap (λ (t : List ℕ). last ++ (10 ∷ t)) e)
+printed-under ((b ∷ l) ∷ ls) sum above each =
+    go (byStacks ls) (some-stack ls) (printed-under ls (sum + plateIn (b ∷ l)) (plateIn (b ∷ l)) (each .1))
   where
-    go : (G : List (List (List ℕ))) → 0 < length G
-        → endLines (sum + plateIn (b ∷ l)) (map plateIn ls) ≡ textUnder (sum + plateIn (b ∷ l)) G
-        → endLines sum (plateIn (b ∷ l) ∷ map plateIn ls) ≡ textUnder sum (atTop (b ∷ l) G)
+    p : ℕ
+    p = plateIn (b ∷ l)
+
+    go : (G : List (List (List ℕ))) → 0 < length G → endLines (sum + p) p (map plateIn ls) ≡ textUnder (sum + p) p G
+        → endLines sum above (p ∷ map plateIn ls) ≡ textUnder sum above (atTop (b ∷ l) G)
     go [] h e = absurd (omega arith)
     go (g ∷ gs) h e =
         let s = each .0 in
-        let z : eqb (plateIn (b ∷ l)) 0 ≡ false = ne-eqb (plateIn (b ∷ l)) 0 (λ q. omega arith) in
-        let p : ℕ = plateIn (b ∷ l) in
-        let below : List ℕ = ended (map (number 6) (running (sum + p) (map plateIn g))) in
+        let z : eqb p 0 ≡ false = ne-eqb p 0 (λ q. omega arith) in
+        let below : List ℕ = ended (map (number 6) (running (sum + p) p (map plateIn g))) in
         let after : List ℕ = further (map (map (number 6)) (map endsOf (map (map plateIn) gs))) in
         rw (z, e)
         (append-assoc (number 6 (sum + p / 2)) (10 ∷ []) (below ++ after) ∙ sym (append-assoc (number 6 (sum + p / 2)) (10 ∷ below) after))
 
-under-none : (G : List (List (List ℕ))) → textUnder 0 G ≡ listText (map endsOf (map (map plateIn) G))
+under-none : (G : List (List (List ℕ))) → textUnder 0 0 G ≡ listText (map endsOf (map (map plateIn) G))
 unfolding textOf
 under-none [] = refl
 under-none (g ∷ gs) = rw (ends-running (map plateIn g))
 
-pub ends-printed : (text : List ℕ) → isList text ≡ true → endLines 0 (map plateIn (linesOf text)) ≡ listText (map endsOf (stacksIn text))
+pub ends-printed : (text : List ℕ) → isList text ≡ true → endLines 0 0 (map plateIn (linesOf text)) ≡ listText (map endsOf (stacksIn text))
 ends-printed text e =
-    printed-under (linesOf text) 0 (list-some (linesOf text) 1 0 (judged text ∙ e)) ∙ under-none (byStacks (linesOf text))
+    printed-under (linesOf text) 0 0 (list-some (linesOf text) 1 0 (judged text ∙ e)) ∙ under-none (byStacks (linesOf text))

@@ -29,10 +29,10 @@ module _ (text numbers : List ℕ) (n : ℕ) (v : Listed text numbers n) where
       go true e c = let s = some-line text e in absurd (omega arith)
       go false e c = rw e
 
-  pub list-printed : (n ≡ 0 → ⊥) → endLines 0 (take n numbers) ≡ generated text
+  pub list-printed : (n ≡ 0 → ⊥) → endLines 0 0 (take n numbers) ≡ generated text
   unfolding generated
   list-printed z = go (isList text) refl (v .count)
     where
-      go : (t : Bool) → isList text ≡ t → n ≡ cond t (length (linesOf text)) 0 → endLines 0 (take n numbers) ≡ generated text
+      go : (t : Bool) → isList text ≡ t → n ≡ cond t (length (linesOf text)) 0 → endLines 0 0 (take n numbers) ≡ generated text
       go true e c = rw (e, v .each e) (ends-printed text e)
       go false e c = absurd (z c)

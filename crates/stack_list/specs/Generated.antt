@@ -1,4 +1,4 @@
--- What the generator prints (document 02, W-205). Assumes nothing.
+-- What the generator prints (document 02, W-205 and W-206). Assumes nothing.
 use mathlib.Core.Bool.{cond}
 use mathlib.Core.List.{List, [], _∷_, map}
 use Prim.Native.Nat.{ℕ}

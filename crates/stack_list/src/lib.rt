@@ -1,4 +1,4 @@
-// A list of stacks, read from text, and the ends of their bands printed (document 02, W-205).
+// A list of stacks, read from text, and the ends of their bands printed (document 02, W-205 and W-206).
 mod printing;
 mod reading;
 
@@ -11,12 +11,12 @@ ghost use Rattle.stack_list.specs.Generated.{generated};
 // A byte more than the longest list has: 16 stacks of 24 lines of 7 bytes, and 15 blank lines.
 pub const INPUT_BYTES: usize = 2704;
 
-// Room for as many lines as a list has.
-pub const OUTPUT_BYTES: usize = 7 * NUMBERS;
+// A line of 7 bytes for each line of a list, at a blank one a byte more, and the last end.
+pub const OUTPUT_BYTES: usize = 8 * NUMBERS + 7;
 
 // What the generator prints for a text, at the start of `out`; returns how many bytes.
 pub fn generate(text: &[u8], out: &mut [u8]) -> usize
-    requires { ⌜ 2793 ≤ length (now out) ⌝ }
+    requires { ⌜ 3199 ≤ length (now out) ⌝ }
     ensures { λ r. ⌜ (r ≤ length (now (out .exit))) × (take r (now (out .exit)) ≡ generated (now (text .entry))) ⌝ }
 {
     let mut numbers = [0u32; NUMBERS];

@@ -16,7 +16,6 @@ use Rattle.store.specs.declared.State.{State}
 use Rattle.store.specs.World.{World, world}
 use Rattle.store.specs.Calls as Calls
 use Rattle.store.specs.Calls.{Outcome}
-use Rattle.loads.specs.Signed.{sideBySide}
 use Rattle.state_bytes.specs.StateBytes.{stateBytes, stateAs, stateIn}
 use Rattle.kept.specs.Kept.{kept}
 use Rattle.store_abi.specs.Areas.{left, leaves, newBytes, called, Answered, replied, repliedIn}
@@ -88,10 +87,11 @@ pub search-left : (o : SearchAnswer) (n c : ℕ) (rows answer answer' : List ℕ
     → replied n rows answer' ≡ replied (o .number) (o .area) (kept (o .number) (bytes 8 (o .count)) answer)
 search-left o n c rows answer answer' e f = rw (f, ← e)
 
-pub tally-left : (o : TallyAnswer) (n : ℕ) (counts answer answer' : List ℕ)
-    → _≡_ {A = TallyAnswer} (record { number = n; counts = counts }) o → answer' ≡ kept n (sideBySide (bytes 8) counts) answer
-    → replied n [] answer' ≡ replied (o .number) [] (kept (o .number) (sideBySide (bytes 8) (o .counts)) answer)
-tally-left o n counts answer answer' e f = rw (f, ← e)
+-- a tally's counts, laid out in this way
+pub tally-left : (laid : List ℕ → List ℕ) (o : TallyAnswer) (n : ℕ) (counts answer answer' : List ℕ)
+    → _≡_ {A = TallyAnswer} (record { number = n; counts = counts }) o → answer' ≡ kept n (laid counts) answer
+    → replied n [] answer' ≡ replied (o .number) [] (kept (o .number) (laid (o .counts)) answer)
+tally-left laid o n counts answer answer' e f = rw (f, ← e)
 
 pub plate-left : (p o : Lookup) (answer answer' : List ℕ) → p ≡ o → answer' ≡ kept (p .number) (bytes 8 (p .plate)) answer
     → replied (p .number) [] answer' ≡ replied (o .number) [] (kept (o .number) (bytes 8 (o .plate)) answer)

@@ -1,6 +1,6 @@
 -- The calls over byte areas and numbers: each equals the store's call on the state that its area holds. An accepted call leaves the
--- next state there, and its other answers in an area of 8-byte numbers; a refusal leaves every area as it was. A conversion reads one
--- store and its state and writes a second one. Assumes nothing.
+-- next state there, and its other answers in an area of 8-byte numbers, or of a page; a refusal leaves every area as it was. A conversion
+-- reads one store and its state and writes a second one. Assumes nothing.
 use mathlib.Core.Bool.{Bool, cond, _&&_}
 use mathlib.Core.List.{List, []}
 use Prim.Native.Nat.{ℕ, _*_}
@@ -14,6 +14,7 @@ use Rattle.form.specs.declared.Form.the-variants.{Old, New}
 use Rattle.store.specs.World.{World, world}
 use Rattle.store.specs.Calls.{Outcome, formatOutcome, appendOutcome, closeOutcome, dropOutcome}
 use Rattle.questions.specs.Queries.{searchOutcome, tallyOutcome}
+use Rattle.service_page.specs.Page.{pageBytes, pageOf}
 use Rattle.loads.specs.Signed.{sideBySide}
 use Rattle.conversion.specs.Outcome.{forwardOutcome, backwardOutcome}
 use Rattle.state_bytes.specs.StateBytes.{stateBytes, stateIn, oldStateBytes, oldStateIn, areaLength}
@@ -95,11 +96,17 @@ searchCalled area nand nor slots t1 t2 k1 k2 rows answer =
     let o = searchOutcome (world nand nor (stateIn area)) slots t1 t2 k1 k2 rows in
     repliedIn area answer 8 rows (replied (o .number) (o .area) (kept (o .number) (bytes 8 (o .count)) answer))
 
--- 21 counts of 8 bytes
+-- 22 counts of 8 bytes
 unfoldable pub tallyCalled : List ℕ → List ℕ → List ℕ → ℕ → ℕ → ℕ → List ℕ → Answered
 tallyCalled area nand nor slots t1 t2 answer =
     let o = tallyOutcome (world nand nor (stateIn area)) slots t1 t2 in
     repliedIn area answer (8 * plates) [] (replied (o .number) [] (kept (o .number) (sideBySide (bytes 8) (o .counts)) answer))
+
+-- the service page of a tally
+unfoldable pub pageCalled : List ℕ → List ℕ → List ℕ → ℕ → ℕ → ℕ → List ℕ → Answered
+pageCalled area nand nor slots t1 t2 page =
+    let o = tallyOutcome (world nand nor (stateIn area)) slots t1 t2 in
+    repliedIn area page pageBytes [] (replied (o .number) [] (kept (o .number) (pageOf t1 t2 (o .counts)) page))
 
 -- the plate in 8 bytes
 unfoldable pub plateCalled : ℕ → ℤ → List ℕ → Answered

@@ -1,26 +1,32 @@
 // The calls for C and Rust: byte areas and numbers only. The state is a lent area of 783 bytes, 775 in form 0, the other answers are an
-// area of 8-byte numbers. Each call returns its number; 20 where one of these areas has another length, before everything else.
+// area of 8-byte numbers, a service page its text. Each call returns its number; 20 where one of these areas has another length, before
+// everything else.
 use grow::Plan;
 use kept::NUMBER_BYTES;
 use lift::NOTE_BYTES;
 use plate::PLATES;
+use service_page::PAGE_BYTES;
 use store::State;
 use store::append::pieces;
 use store::fields::Fields;
+use tally::Tally;
 ghost use mathlib.Core.Path.{_≡_};
 ghost use mathlib.Core.Bool.{true};
 ghost use mathlib.Core.List.{[]};
 ghost use lib.ListN.{length};
 ghost use Rattle.form.specs.declared.Form.the-variants.{New};
 ghost use Rattle.grow.specs.Inner.Meaning.{meaning};
+ghost use Rattle.questions.specs.Queries.{tallyOutcome};
 ghost use Rattle.state_bytes.specs.StateBytes.{stateIn, areaLength};
 ghost use Rattle.store.specs.Inner.Fields.{fieldsOf};
 ghost use Rattle.store.specs.Inner.Pieces.{entryGround, isPlain};
+ghost use Rattle.store.specs.World.{world};
+ghost use Rattle.tally.specs.Answers.{TallyAnswer};
 ghost use Rattle.store_abi.specs.Inner.Appending.{Appending};
 ghost use Rattle.store_abi.specs.Areas.{left, replied};
 ghost use Rattle.store_abi.specs.Areas.{formatCalled, appendCalled, closeCalled, dropCalled};
 ghost use Rattle.store_abi.specs.Areas.{forwardCalled, backwardCalled};
-ghost use Rattle.store_abi.specs.Areas.{searchCalled, tallyCalled, plateCalled};
+ghost use Rattle.store_abi.specs.Areas.{searchCalled, tallyCalled, pageCalled, plateCalled};
 
 // One of the areas of state and answers has another length.
 const AREA_LENGTH: u8 = 20;
@@ -214,6 +220,18 @@ pub extern "C" fn store_search(
     f.number
 }
 
+// A tally of the store whose state is in this area.
+fn tallied(state: &[u8], nand: &[u8], nor: &[u8], slots: u64, t1: u64, t2: u64) -> Tally
+    requires { ⌜ length (now state) ≡ areaLength New ⌝ }
+    ensures { λ r. ⌜ _≡_ {A = TallyAnswer} (record { number = r .number; counts = r .counts })
+        (tallyOutcome (world (now (nand .entry)) (now (nor .entry)) (stateIn (now (state .entry)))) slots t1 t2) ⌝ }
+{
+    let n = area_reads::ground(state, nand.len(), nor.len(), slots);
+    let page = area_reads::page_of(state);
+    let g = area_reads::log_at(state, slots);
+    questions::pieces::tally_from(n, page, g, nand, nor, t1, t2)
+}
+
 #[no_mangle]
 pub extern "C" fn store_tally(
     state: &[u8],
@@ -233,12 +251,35 @@ pub extern "C" fn store_tally(
     if answer.len() != COUNTS_BYTES {
         return AREA_LENGTH;
     }
-    let n = area_reads::ground(state, nand.len(), nor.len(), slots);
-    let page = area_reads::page_of(state);
-    let g = area_reads::log_at(state, slots);
-    let t = questions::pieces::tally_from(n, page, g, nand, nor, t1, t2);
+    let t = tallied(state, nand, nor, slots, t1, t2);
     let counts = t.counts;
     kept::keep_counts(answer, t.number, counts);
+    t.number
+}
+
+// The service page of a tally (W-201).
+#[no_mangle]
+pub extern "C" fn store_page(
+    state: &[u8],
+    nand: &[u8],
+    nor: &[u8],
+    slots: u64,
+    t1: u64,
+    t2: u64,
+    page: &mut [u8],
+) -> u8
+    ensures { λ r. ⌜ replied r [] (now (page .exit))
+        ≡ pageCalled (now (state .entry)) (now (nand .entry)) (now (nor .entry)) slots t1 t2 (now (page .entry)) ⌝ }
+{
+    if state.len() != state_bytes::STATE_BYTES {
+        return AREA_LENGTH;
+    }
+    if page.len() != PAGE_BYTES {
+        return AREA_LENGTH;
+    }
+    let t = tallied(state, nand, nor, slots, t1, t2);
+    let counts = t.counts;
+    kept::keep_page(page, t.number, t1, t2, counts);
     t.number
 }
 

@@ -56,7 +56,7 @@ counted-place (x ∷ codes) cs i h =
     one false e = omega arith
 
 pub none-zero : (i : ℕ) → getD noCounts i 0 ≡ 0
-none-zero i = go 21 i
+none-zero i = go 22 i
   where
     go : (n i : ℕ) → _≡_ {A = ℕ} (getD (replicate n 0) i 0) 0
     go zero i = refl

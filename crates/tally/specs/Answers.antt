@@ -9,7 +9,7 @@ use Rattle.plate.specs.Plate.{noCounts, countsOf}
 abbrev pub rowCodes : List (List ℕ) → List ℕ
 rowCodes rows = map (λ r. codeAt r 0) rows
 
--- number and 21 counts
+-- number and 22 counts
 pub record TallyAnswer : Type 0 where
   pub number : ℕ
   pub counts : List ℕ

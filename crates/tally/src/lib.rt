@@ -16,7 +16,7 @@ ghost use Rattle.visit.specs.Inner.Sound.{LogSound};
 ghost use Rattle.found.specs.Found.{foundRows};
 ghost use Rattle.tally.specs.Answers.{TallyAnswer, tallyAnswer};
 
-// The number, and 21 counts.
+// The number, and 22 counts.
 pub struct Tally {
     pub number: u8,
     pub counts: [u64; PLATES],

@@ -1,12 +1,12 @@
--- The worked examples of document 01 ("Proved together as a table with a single theorem"): what the definitions that the
--- contracts cite give, beside the paper's figure. Assumes nothing.
+-- The worked examples of document 01 ("Proved together as a table with a single theorem"), with those of document 02, W-206: what the
+-- definitions that the contracts cite give, beside the paper's figure. Assumes nothing.
 use mathlib.Core.List.{List, [], _∷_, map}
 use Prim.Native.Nat.{ℕ, _-_}
 use lib.IntN.{ℤ, pos, negℤ}
-use lib.ListN.{replicate}
+use lib.ListN.{length, replicate}
 use Rattle.bloom.specs.Bloom.{bloomBit}
 use Rattle.lift.specs.Limits.{stored, loadOf}
-use Rattle.plate.specs.Plate.{plateOf}
+use Rattle.plate.specs.Plate.{plateOf, countsOf}
 use Rattle.skiplist.specs.Skip.{levelOf}
 use Rattle.split.specs.Split.{mid, low, high, midpoint}
 
@@ -39,6 +39,10 @@ examples l h =
     ∷ (pos (plateOf (pos 251)), pos 1)
     ∷ (pos (plateOf (pos 9750)), pos 19)
     ∷ (pos (plateOf (pos 9751)), pos 20)
+    ∷ (pos (plateOf (pos 10250)), pos 20)
+    ∷ (pos (plateOf (pos 10251)), pos 21)
+    ∷ (pos (plateOf (pos 100000)), pos 21)
+    ∷ (pos (length (countsOf [])), pos 22)
     ∷ (pos (levelOf 1), pos 1)
     ∷ (pos (levelOf 2), pos 2)
     ∷ (pos (levelOf 8), pos 4)

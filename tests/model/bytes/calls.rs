@@ -7,14 +7,15 @@ use super::state::State;
 use super::work::{put_state, Work};
 use crate::limits::*;
 use crate::plate::plate_of;
+use crate::service_page;
 use crate::stacks::{generated, plate_at};
 use script::areas::{Areas, SLOT_BYTES};
-use script::calls::{Call, Carry, Outputs, Store, Window, PLATES};
+use script::calls::{Call, Carry, Outputs, Store, Window};
 use script::form::Form;
 
 const NOR_BYTES: usize = 6_144;
 
-/// Answers any call on any areas as document 01 says, in form 1 as W-202 amends it, and W-203's two calls.
+/// Answers any call on any areas as document 01 says, in form 1 as W-202 and W-206 amend it, and W-203's two calls.
 pub struct Expectation;
 
 impl Store for Expectation {
@@ -26,6 +27,7 @@ impl Store for Expectation {
             Call::Drop { slots } => drop_oldest(form, areas, slots),
             Call::Search { slots, ref window, .. } => search(form, areas, slots, window, outputs),
             Call::Tally { slots, t1, t2 } => tally(form, areas, slots, t1, t2, outputs),
+            Call::Page { slots, t1, t2 } => page(form, areas, slots, t1, t2, outputs),
             Call::Plate { place, load } => plate(place, load, outputs),
         };
         result.err().unwrap_or(0)
@@ -102,7 +104,7 @@ fn drop_oldest(form: Form, areas: &mut Areas, slots: u64) -> Outcome<()> {
 }
 
 fn put_values(outputs: &mut Outputs, values: &[u64]) {
-    outputs.values = values.iter().flat_map(|value| value.to_le_bytes()).collect();
+    outputs.answer = values.iter().flat_map(|value| value.to_le_bytes()).collect();
 }
 
 /// The records that a search finds, unless a ground before 12 is against it.
@@ -126,13 +128,23 @@ fn search(form: Form, areas: &Areas, slots: u64, window: &Window, outputs: &mut 
 }
 
 /// Counts what a search over all loads finds; its grounds 5 and 12 cannot hold.
-fn tally(form: Form, areas: &Areas, slots: u64, t1: u64, t2: u64, outputs: &mut Outputs) -> Outcome<()> {
+fn counts(form: Form, areas: &Areas, slots: u64, t1: u64, t2: u64) -> Outcome<Vec<u64>> {
     let all_loads = Window { t1, t2, k1: LEAST_LOAD, k2: GREATEST_LOAD };
-    let mut counts = [0; PLATES];
+    let mut counts = vec![0; form.counts()];
     for record in found(form, areas, slots, &all_loads)? {
-        counts[plate_of(load_of(&record) as i32)] += 1;
+        counts[plate_of(form, load_of(&record) as i32)] += 1;
     }
-    put_values(outputs, &counts);
+    Ok(counts)
+}
+
+fn tally(form: Form, areas: &Areas, slots: u64, t1: u64, t2: u64, outputs: &mut Outputs) -> Outcome<()> {
+    put_values(outputs, &counts(form, areas, slots, t1, t2)?);
+    Ok(())
+}
+
+fn page(form: Form, areas: &Areas, slots: u64, t1: u64, t2: u64, outputs: &mut Outputs) -> Outcome<()> {
+    let lines = service_page::page(t1, t2, &counts(form, areas, slots, t1, t2)?);
+    outputs.answer = service_page::text_of(&lines).into_bytes();
     Ok(())
 }
 

@@ -12,10 +12,10 @@ use Rattle.answers.proofs.put_counts.Tie as tie
 
 abbrev Inv-loop : tie.InvT-loop
 Inv-loop s₀ counts i₀ s i =
-    (i ≤ 21) × ((length s ≡ length s₀) × (splice s (4 + 7 * i) (countsBytes (drop i counts)) ≡ splice s₀ 4 (countsBytes counts)))
+    (i ≤ 22) × ((length s ≡ length s₀) × (splice s (4 + 7 * i) (countsBytes (drop i counts)) ≡ splice s₀ 4 (countsBytes counts)))
 
 abbrev μ-loop : tie.MeasureT-loop
-μ-loop s₀ counts i₀ s i = 21 - i
+μ-loop s₀ counts i₀ s i = 22 - i
 
 loop-holds : tie.Need-loop-holds Inv-loop μ-loop
 loop-holds c = (search needs, (refl, refl))
@@ -45,8 +45,8 @@ loop-again : tie.Need-loop-again Inv-loop μ-loop
 loop-again c =
     let p = c .before .before in
     let l = p .before .before .before in
-    let n : length (l .before .before .args .t2) ≡ 21 = search needs in
-    let i : l .loop .i < 21 = omega arith in (
+    let n : length (l .before .before .args .t2) ≡ 22 = search needs in
+    let i : l .loop .i < 22 = omega arith in (
       search needs,
       (
         p .put-count .kept .0 ∙ l .loop .inv .1 .0,
@@ -59,7 +59,7 @@ same-length c = search needs
 
 returns : tie.Need-returns Inv-loop μ-loop
 returns c =
-    let n : length (c .before .before .before .args .t2) ≡ 21 = search needs in
+    let n : length (c .before .before .before .args .t2) ≡ 22 = search needs in
     let e : length (c .before .before .before .args .t2) ≡ c .before .loop .i = omega arith in
     counts-done _ _ _ _ _ e (c .before .loop .inv .1 .1)
 

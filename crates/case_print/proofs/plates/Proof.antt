@@ -1,14 +1,14 @@
--- Plates stay below 21.
+-- Plates stay below 22.
 use Prim.Native.Nat.{_-_, _≤_}
 use borrow.Author.Needs.{needs}
 use Rattle.case_print.proofs.plates.Statement.{statement}
 use Rattle.case_print.proofs.plates.Tie as tie
 
 abbrev Inv-loop : tie.InvT-loop
-Inv-loop n p₀ p = p ≤ 21
+Inv-loop n p₀ p = p ≤ 22
 
 abbrev μ-loop : tie.MeasureT-loop
-μ-loop n p₀ p = 21 - p
+μ-loop n p₀ p = 22 - p
 
 loop-holds : tie.Need-loop-holds Inv-loop μ-loop
 loop-holds c = search needs

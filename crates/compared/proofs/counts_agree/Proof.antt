@@ -1,14 +1,14 @@
--- Plates stay below 21.
+-- Plates stay below 22.
 use Prim.Native.Nat.{_-_, _≤_}
 use borrow.Author.Needs.{needs}
 use Rattle.compared.proofs.counts_agree.Statement.{statement}
 use Rattle.compared.proofs.counts_agree.Tie as tie
 
 abbrev Inv-loop : tie.InvT-loop
-Inv-loop sheet log q counts plate₀ plate = plate ≤ 21
+Inv-loop sheet log q counts plate₀ plate = plate ≤ 22
 
 abbrev μ-loop : tie.MeasureT-loop
-μ-loop sheet log q counts plate₀ plate = 21 - plate
+μ-loop sheet log q counts plate₀ plate = 22 - plate
 
 loop-holds : tie.Need-loop-holds Inv-loop μ-loop
 loop-holds c = search needs

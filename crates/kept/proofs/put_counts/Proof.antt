@@ -15,7 +15,7 @@ abbrev Inv-loop : tie.InvT-loop
 Inv-loop answer₀ counts i₀ answer i = Put (bytes 8) 8 (length-bytes 8) answer₀ 0 counts answer i
 
 abbrev μ-loop : tie.MeasureT-loop
-μ-loop answer₀ counts i₀ answer i = 21 - i
+μ-loop answer₀ counts i₀ answer i = 22 - i
 
 loop-holds : tie.Need-loop-holds Inv-loop μ-loop
 loop-holds c = put-none (bytes 8) 8 (length-bytes 8) _ 0 (c .before .args .t2) (omega arith)
@@ -44,7 +44,7 @@ loop-again : tie.Need-loop-again Inv-loop μ-loop
 loop-again c =
     let l = c .before .before .before .before .before in
     let a = l .before .before .args in
-    let n : length (a .t2) ≡ 21 = search needs in
+    let n : length (a .t2) ≡ 22 = search needs in
     put-next (bytes 8) 8 (length-bytes 8) _ _ _ 0 (a .t2) (l .loop .i) (8 * l .loop .i) 0 _ (omega arith) (omega arith) (omega arith) (l .loop .inv) refl
     (c .before .before .put-u64 .ensures)
 
@@ -54,7 +54,7 @@ same-length c = omega (arith, c .before .loop .inv .1)
 returns : tie.Need-returns Inv-loop μ-loop
 returns c =
     let a = c .before .before .before .args in
-    let n : length (a .t2) ≡ 21 = search needs in
+    let n : length (a .t2) ≡ 22 = search needs in
     put-all (bytes 8) 8 (length-bytes 8) _ _ 0 (a .t2) _ (omega arith) (c .before .loop .inv)
     ∙ splice-all _ _ (length-side (bytes 8) 8 (length-bytes 8) (a .t2) ∙ omega arith)
 

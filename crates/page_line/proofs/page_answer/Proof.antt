@@ -1,7 +1,8 @@
 -- `page_line::page_answer` meets its contract: letter, number and, where that is 0, the page.
 use mathlib.Core.Path.{_∙_}
 use lib.ListN.{length-set}
-use Rattle.page_line.proofs.ServicePage.{counts-fit, refused-put, page-put}
+use Rattle.questions.proofs.TallyMost.{counts-fit}
+use Rattle.page_line.proofs.ServicePage.{refused-put, page-put}
 use native.Mathlib.Omega.{arith}
 use borrow.Author.Needs.{needs}
 use Rattle.page_line.proofs.page_answer.Statement.{statement}

@@ -1,10 +1,10 @@
 -- `plate::plate_by_end` meets its contract: the load lies up to the end of the near plate or past it, and never past the next one.
 use mathlib.Core.Logic.{⊎-elim}
-use mathlib.Core.Path.{_≡_, _∙_}
+use mathlib.Core.Path.{_≡_}
 use Prim.Native.Nat.{_+_, _/_}
 use native.Mathlib.Omega.{arith}
 use borrow.Author.Needs.{needs}
-use Rattle.plate.proofs.Bands.{up-to-end, past-end}
+use Rattle.plate.proofs.Bands.{plate-is}
 use Rattle.plate.proofs.plate_by_end.Statement.{statement}
 use Rattle.plate.proofs.plate_by_end.Tie as tie
 
@@ -20,14 +20,14 @@ cast-result c = ⊎-elim (λ w. search needs) (λ w. search needs) (c .before .i
 returns : tie.Need-returns
 returns c =
     let load = c .before .before .before .args .load in
-    ⊎-elim
+    plate-is load 0 _ (⊎-elim
     (λ w.
     let e : c .before .if1 .plate ≡ load / 512 + 1 = omega arith in
-    e ∙ past-end (load / 512) load 0 (omega arith) (omega arith) (λ h. omega arith))
+    record { small = omega arith; low = λ n. omega arith; high = λ n. omega arith })
     (λ w.
     let e : c .before .if1 .plate ≡ load / 512 = omega arith in
-    e ∙ up-to-end (load / 512) load 0 (omega arith) (λ h. omega arith) (omega arith))
-    (c .before .if1 .came)
+    record { small = omega arith; low = λ n. omega arith; high = λ n. omega arith })
+    (c .before .if1 .came))
 
 pub plate-by-end-spec : {M : Type 1} → statement M
 plate-by-end-spec = tie.close (tie.spec upper-end-requires add-plate cast-result returns)

@@ -13,11 +13,11 @@ use Rattle.plate.proofs.plate_of_code.Statement.{statement}
 use Rattle.plate.proofs.plate_of_code.Tie as tie
 
 -- a stored load that is near the ends
-from-zero : (code : ℕ) → (leb 50001 code && ltb code 60241) ≡ true → 50001 ≤ code
-from-zero code e = leb-true 50001 code (and-left (leb 50001 code) (ltb code 60241) e)
+from-zero : (code : ℕ) → (leb 50001 code && ltb code 60753) ≡ true → 50001 ≤ code
+from-zero code e = leb-true 50001 code (and-left (leb 50001 code) (ltb code 60753) e)
 
-not-past : (code : ℕ) → (leb 50001 code && ltb code 60241) ≡ true → code - 50001 < 10240
-not-past code e = omega (arith, ltb-true code 60241 (and-right (leb 50001 code) (ltb code 60241) e))
+not-past : (code : ℕ) → (leb 50001 code && ltb code 60753) ≡ true → code - 50001 < 10752
+not-past code e = omega (arith, ltb-true code 60753 (and-right (leb 50001 code) (ltb code 60753) e))
 
 far-plate-requires : tie.Need-far-plate-requires
 far-plate-requires c κs = not-true _ (c .if1 .taken)

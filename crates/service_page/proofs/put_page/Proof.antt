@@ -6,7 +6,7 @@ use borrow.Author.Needs.{needs}
 use Rattle.service_page.proofs.put_page.Statement.{statement}
 use Rattle.service_page.proofs.put_page.Tie as tie
 
-counts-long : (c : tie.Start) → length (c .args .counts) ≡ 21
+counts-long : (c : tie.Start) → length (c .args .counts) ≡ 22
 counts-long c = search needs
 
 total-of-requires : tie.Need-total-of-requires

@@ -13,8 +13,8 @@ use Rattle.service_page.proofs.put_plates.Tie as tie
 
 abbrev Inv-loop : tie.InvT-loop
 Inv-loop s₀ at all counts to₀ left₀ s to left =
-    (left ≤ 21) × ((to + 41 * left ≤ length s) × ((length s ≡ length s₀)
-    × (splice s to (textOf (plateLines counts left)) ≡ splice s₀ at (textOf (plateLines counts 21)))))
+    (left ≤ 22) × ((to + 41 * left ≤ length s) × ((length s ≡ length s₀)
+    × (splice s to (textOf (plateLines counts left)) ≡ splice s₀ at (textOf (plateLines counts 22)))))
 
 abbrev μ-loop : tie.MeasureT-loop
 μ-loop s₀ at all counts to₀ left₀ s to left = left

@@ -3,7 +3,7 @@ use mathlib.Core.Path.{_≡_}
 use Prim.Native.Nat.{_+_, _-_, _≤_}
 use native.Mathlib.Numerals.{add-one}
 use lib.ListN.{length, drop}
-use Rattle.plate.specs.Plate.{total}
+use Rattle.plate.specs.Total.{total}
 use Rattle.plate.proofs.Totals.{total-from, total-past}
 use native.Mathlib.Omega.{arith}
 use borrow.Author.Needs.{needs}
@@ -11,10 +11,10 @@ use Rattle.service_page.proofs.total_of.Statement.{statement}
 use Rattle.service_page.proofs.total_of.Tie as tie
 
 abbrev Inv-loop : tie.InvT-loop
-Inv-loop counts sum₀ i₀ sum i = (i ≤ 21) × (sum + total (drop i counts) ≡ total counts)
+Inv-loop counts sum₀ i₀ sum i = (i ≤ 22) × (sum + total (drop i counts) ≡ total counts)
 
 abbrev μ-loop : tie.MeasureT-loop
-μ-loop counts sum₀ i₀ sum i = 21 - i
+μ-loop counts sum₀ i₀ sum i = 22 - i
 
 loop-holds : tie.Need-loop-holds Inv-loop μ-loop
 loop-holds c = search needs
@@ -27,7 +27,7 @@ array-read-sum c = search needs
 
 add-sum : tie.Need-add-sum Inv-loop μ-loop
 add-sum c =
-    let n : length (c .before .before .args .t1) ≡ 21 = search needs in
+    let n : length (c .before .before .args .t1) ≡ 22 = search needs in
     let t = total-from (c .before .before .args .t1) (c .before .loop .i) (omega arith) in
     record { fits = omega arith }
 
@@ -39,13 +39,13 @@ loop-less c = search needs
 
 loop-again : tie.Need-loop-again Inv-loop μ-loop
 loop-again c =
-    let n : length (c .before .before .args .t1) ≡ 21 = search needs in
+    let n : length (c .before .before .args .t1) ≡ 22 = search needs in
     let t = total-from (c .before .before .args .t1) (c .before .loop .i) (omega arith) in
     (search needs, rw (add-one (c .before .loop .i)) (omega arith))
 
 returns : tie.Need-returns Inv-loop μ-loop
 returns c =
-    let n : length (c .before .before .args .t1) ≡ 21 = search needs in
+    let n : length (c .before .before .args .t1) ≡ 22 = search needs in
     let e : length (c .before .before .args .t1) ≡ c .before .loop .i = omega arith in
     let z = total-past (c .before .before .args .t1) (c .before .loop .i) e in
     omega arith

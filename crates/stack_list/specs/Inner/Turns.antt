@@ -42,14 +42,19 @@ pub record Listed (text numbers : List ℕ) (n : ℕ) : Type 0 where
   pub most : n ≤ 399
   pub each : isList text ≡ true → take n numbers ≡ map plateIn (linesOf text)
 
--- what is printed for a number, 0 being a blank line, under plates of this sum
-unfoldable pub endLine : ℕ → ℕ → List ℕ
-endLine sum n = cond (eqb n 0) (lineFeed ∷ []) (number 6 (sum + n / 2) ++ (lineFeed ∷ []))
+-- an end on its line
+unfoldable pub endLine : ℕ → List ℕ
+endLine end = number 6 end ++ (lineFeed ∷ [])
+
+-- what is printed for a number under plates of this sum, the lowest of them `above`: the end of the plate above this one; for 0, a blank
+-- line, the last end of its stack before it
+unfoldable pub turnLines : ℕ → ℕ → ℕ → List ℕ
+turnLines sum above n = cond (eqb n 0) (endLine (sum + above / 2) ++ (lineFeed ∷ [])) (endLine (sum + n / 2))
 
 -- the sum of a stack's plates down to this one; a blank line begins the next stack
 abbrev pub sumOn : ℕ → ℕ → ℕ
 sumOn sum n = cond (eqb n 0) 0 (sum + n)
 
-unfoldable pub endLines : ℕ → List ℕ → List ℕ
-endLines sum [] = []
-endLines sum (n ∷ ns) = endLine sum n ++ endLines (sumOn sum n) ns
+unfoldable pub endLines : ℕ → ℕ → List ℕ → List ℕ
+endLines sum above [] = endLine (sum + above / 2)
+endLines sum above (n ∷ ns) = turnLines sum above n ++ endLines (sumOn sum n) n ns

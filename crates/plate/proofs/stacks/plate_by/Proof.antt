@@ -12,7 +12,7 @@ use Rattle.plate.proofs.stacks.plate_by.Tie as tie
 
 abbrev Inv-loop : tie.InvT-loop
 Inv-loop ends load plate₀ plate =
-    (length ends ≤ 24) × ((plate ≤ length ends) × (plateBy ends (subℕ load 0) ≡ plate + plateBy (drop plate ends) (subℕ load 0)))
+    (length ends ≤ 25) × ((plate ≤ length ends) × (plateBy ends (subℕ load 0) ≡ plate + plateBy (drop plate ends) (subℕ load 0)))
 
 abbrev μ-loop : tie.MeasureT-loop
 μ-loop ends load plate₀ plate = length ends - plate

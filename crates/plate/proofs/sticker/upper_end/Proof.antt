@@ -15,11 +15,11 @@ past : (k n : ℕ) → NoneOf k n → k ≤ n
 past zero n u = omega arith
 past (suc k) n u = omega (arith, past k n (u .0), u .1)
 
-no-plate-past-19 : (n : ℕ) → n ≤ 19 → 20 ≤ n → ⊥
-no-plate-past-19 n h l = omega arith
+no-end-past-20 : (n : ℕ) → n ≤ 20 → 21 ≤ n → ⊥
+no-end-past-20 n h l = omega arith
 
-returns-21 : tie.Need-returns-21
-returns-21 c = absurd (no-plate-past-19 _ (c .before .pre) (past 20 _ (c .match .rest)))
+returns-22 : tie.Need-returns-22
+returns-22 c = absurd (no-end-past-20 _ (c .before .pre) (past 21 _ (c .match .rest)))
 
 pub upper-end-spec : {M : Type 1} → statement M
 upper-end-spec =
@@ -33,4 +33,5 @@ upper-end-spec =
     (λ c. search needs) (λ c. search needs) (λ c. search needs) (λ c. search needs) (λ c. search needs)
     (λ c. search needs) (λ c. search needs) (λ c. search needs) (λ c. search needs) (λ c. search needs)
     (λ c. search needs) (λ c. search needs) (λ c. search needs) (λ c. search needs) (λ c. search needs)
-    returns-21)
+    (λ c. search needs) (λ c. search needs)
+    returns-22)

@@ -8,13 +8,21 @@ use Rattle.stack_list.proofs.printing.put_ends.Statement.{statement}
 use Rattle.stack_list.proofs.printing.put_ends.Tie as tie
 
 abbrev Inv-loop : tie.InvT-loop
-Inv-loop numbers out₀ sum₀ at₀ i₀ out sum at i = Printed numbers out₀ out sum at i
+Inv-loop numbers out₀ sum₀ above₀ at₀ i₀ out sum above at i = Printed numbers out₀ out sum above at i
 
 abbrev μ-loop : tie.MeasureT-loop
-μ-loop numbers out₀ sum₀ at₀ i₀ out sum at i = length numbers - i
+μ-loop numbers out₀ sum₀ above₀ at₀ i₀ out sum above at i = length numbers - i
 
 loop-holds : tie.Need-loop-holds Inv-loop μ-loop
-loop-holds c = record { within = search needs; same = search needs; room = search needs; small = search needs; whole = search needs }
+loop-holds c =
+    record {
+      within = search needs;
+      same = search needs;
+      room = search needs;
+      small = search needs;
+      light = search needs;
+      whole = search needs;
+    }
 
 mul-n : tie.Need-mul-n Inv-loop μ-loop
 mul-n c = search needs
@@ -25,11 +33,11 @@ shared-slice-read-n c = search needs
 cast-n : tie.Need-cast-n Inv-loop μ-loop
 cast-n c = omega (arith, c .shared-slice-known2 .given (c .before .before .loop .i))
 
-put-end-requires : tie.Need-put-end-requires Inv-loop μ-loop
-put-end-requires c κs =
+put-turn-requires : tie.Need-put-turn-requires Inv-loop μ-loop
+put-turn-requires c κs =
     let l = c .before .before .before in
     let n = c .before .shared-slice-known2 .given (l .loop .i) in
-    (omega arith, (omega arith, omega arith))
+    (omega arith, (omega arith, (omega arith, omega arith)))
 
 sum-on-requires : tie.Need-sum-on-requires Inv-loop μ-loop
 sum-on-requires c κs =
@@ -45,19 +53,29 @@ loop-less c = search needs
 
 loop-again : tie.Need-loop-again Inv-loop μ-loop
 loop-again c =
-    let e = c .before .before .before .put-end in
+    let e = c .before .before .before .put-turn in
     let k = c .before .before .before .before .before in
     let l = k .before .before in
     let w = l .before .before .before in
     let n = k .shared-slice-known2 .given (l .loop .i) in
-    printed-on _ _ _ _ _ _ (l .loop .inv) (k .before .loop-test .taken) (w .pre .1) (omega arith) _ _ _ (e .ensures .0) (e .ensures .1)
+    printed-on _ _ _ _ _ _ _ (l .loop .inv) (w .pre .1) (k .before .loop-test .taken) (omega arith) _ _ _ (e .ensures .0) (e .ensures .1)
     (c .sum-on .ensures)
+
+add-put-end : tie.Need-add-put-end Inv-loop μ-loop
+add-put-end c = search needs
+
+put-end-requires : tie.Need-put-end-requires Inv-loop μ-loop
+put-end-requires c κs = search needs
 
 same-length : tie.Need-same-length Inv-loop μ-loop
 same-length c = search needs
 
 returns : tie.Need-returns Inv-loop μ-loop
-returns c = printed-all _ _ _ _ _ _ (c .before .loop .inv) (c .loop-test .left) (c .before .before .before .before .pre .1)
+returns c =
+    let p = c .before .before in
+    let l = p .before .before .before in
+    printed-all _ _ _ _ _ _ _ (l .loop .inv) (l .before .before .before .pre .1) (p .before .before .loop-test .left) _ _
+    (p .put-end .ensures .0) (p .put-end .ensures .1)
 
 pub put-ends-spec : {M : Type 1} → statement M
 put-ends-spec =
@@ -69,10 +87,12 @@ put-ends-spec =
     mul-n
     shared-slice-read-n
     cast-n
-    put-end-requires
+    put-turn-requires
     sum-on-requires
     add-i
     loop-less
     loop-again
+    add-put-end
+    put-end-requires
     same-length
     returns)
