@@ -8,7 +8,7 @@ use native.Mathlib.Omega.{arith}
 use native.Mathlib.Decide.{decLt}
 use borrow.Author.Tests.{leb-true, eq-eqb, ne-eqb}
 use lib.Dec.{leb}
-use lib.ListN.{length, getD, length-append, replicate, length-replicate}
+use lib.ListN.{length, getD, length-append, replicate, length-replicate, getD-replicate}
 use Rattle.codec.proofs.Truth.{and-left, and-right}
 use Rattle.plate.specs.Total.{total}
 use Rattle.plate.specs.Stack.{isPlate, allPlates, isStack, sumDownTo, lastEnd, endOf, endsFrom, endsOf}
@@ -133,23 +133,11 @@ sum-of-equal (suc m) v (suc n) h = let e = sum-of-equal m v n (omega arith) in o
 
 -- the last one's end too
 pub end-of-equal : (m v n : ℕ) → n ≤ m → 0 < m → endOf (replicate m v) n ≡ v * n + v / 2
-end-of-equal m v n h some = go (decLt n m)
+end-of-equal m v n h some = go n h (decLt n m)
   where
-    go : Dec (n < m) → endOf (replicate m v) n ≡ v * n + v / 2
-    go (yes k) =
-        let s = sum-of-equal m v n h in
-        let t = sum-of-equal m v (suc n) k in
-        let e = end-is (replicate m v) n (omega (arith, length-replicate m v)) in
-        let f = sum-next (replicate m v) n in
-        let g : getD (replicate m v) n 0 ≡ v = omega arith in
-        rw (e, g, s)
-    go (no k) = last n (omega arith)
-      where
-        last : (n : ℕ) → n ≡ m → endOf (replicate m v) n ≡ v * n + v / 2
-        last zero e = absurd (omega arith)
-        last (suc n) e =
-            let s = sum-of-equal m v n (omega arith) in
-            let t = sum-of-equal m v (suc n) (omega arith) in
-            let f = sum-next (replicate m v) n in
-            let g : getD (replicate m v) n 0 ≡ v = omega arith in
-            rw (last-end-is (replicate m v) n (omega (arith, length-replicate m v)), g, t)
+    go : (n : ℕ) → n ≤ m → Dec (n < m) → endOf (replicate m v) n ≡ v * n + v / 2
+    go n h (yes k) =
+        rw (end-is (replicate m v) n (omega (arith, length-replicate m v)), getD-replicate m n v 0 k, sum-of-equal m v n h)
+    go zero h (no k) = absurd (omega arith)
+    go (suc n) h (no k) =
+        rw (last-end-is (replicate m v) n (omega (arith, length-replicate m v)), getD-replicate m n v 0 h, sum-of-equal m v (suc n) h)

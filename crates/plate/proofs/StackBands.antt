@@ -1,5 +1,5 @@
--- Every load lies in exactly one band of a stack, and its plate is that one (document 02, W-205 and W-206). The idea: the first end that a load is
--- not past is the only one, because the ends rise. Assumes nothing.
+-- Every load lies in exactly one band of a stack, and its plate is that one (document 02, W-205 and W-206). The idea: the first end that
+-- a load is not past is the only one, because the ends rise. Assumes nothing.
 use mathlib.Core.Path.{_≡_, refl, sym, ap, _∙_}
 use mathlib.Core.Bool.{Bool, true, false, cond}
 use mathlib.Core.List.{List, [], _∷_}

@@ -1,5 +1,5 @@
--- The generator over any list of stacks within the sizes (document 02, W-205 and W-206): its text is read as the list, and what is printed for it
--- are the rule's ends, each whole in its six columns; a text longer than every list is refused. Assumes nothing.
+-- The generator over any list of stacks within the sizes (document 02, W-205 and W-206): its text is read as the list, and what is
+-- printed for it are the rule's ends, each whole in its six columns; a text longer than every list is refused. Assumes nothing.
 use mathlib.Core.Path.{_≡_, refl, ap, _∙_}
 use mathlib.Core.Bool.{Bool, true, false, cond, _&&_}
 use mathlib.Core.List.{List, [], _∷_, _++_, map}

@@ -115,7 +115,7 @@ pub record Printed (numbers first out : List ℕ) (sum above at i : ℕ) : Type 
   pub same : length out ≡ length first
   pub room : at ≤ 8 * i
   pub small : sum ≤ 4294967296 * i
-  pub light : above < 4294967296
+  pub above-fits : above < 4294967296
   pub whole : take at out ++ endLines sum above (drop i numbers) ≡ endLines 0 0 numbers
 
 module _ (numbers first out : List ℕ) (sum above at i : ℕ) (v : Printed numbers first out sum above at i)
@@ -134,7 +134,7 @@ module _ (numbers first out : List ℕ) (sum above at i : ℕ) (v : Printed numb
         same = ap length p ∙ l ∙ v .same;
         room = omega (arith, v .room);
         small = omega (arith, v .small);
-        light = n;
+        above-fits = n;
         whole = rw (p, q, s) (lines-on out at sum above i numbers h w ∙ v .whole);
       }
 

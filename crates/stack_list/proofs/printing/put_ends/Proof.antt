@@ -20,7 +20,7 @@ loop-holds c =
       same = search needs;
       room = search needs;
       small = search needs;
-      light = search needs;
+      above-fits = search needs;
       whole = search needs;
     }
 
