@@ -3,7 +3,7 @@ use crate::carried::{backward, backward_in_place, Carried, OldStore};
 use crate::gym::{Gym, Random};
 use crate::in_place::InPlace;
 use crate::lift::{Contender, Lift, RECORD_BYTES};
-use crate::proved::Proved;
+use crate::proved::{found_in, FoundArea, Proved};
 use crate::service_page::ServicePage;
 use plain::{plate_of, plate_on, Counts, Ground, OldState, State, Window, LOAD_MAX, LOAD_MIN, SLOT_BYTES, TIME_MAX};
 
@@ -154,12 +154,12 @@ fn same_answers(random: &mut Random, store: &Proved, plain: &InPlace, last: u64,
     let mut load = || [LOAD_MIN, 0, 2_480, 2_500, LOAD_MAX][random.within(0, 4) as usize];
     let window = Window { t1, t2, k1: load(), k2: load() };
     let room = random.within(0, 2_000) as usize * RECORD_BYTES + 5;
-    let (mut rows, mut plain_rows, mut answer) = (vec![9; room], vec![9; room], [0; 8]);
+    let (mut rows, mut plain_rows, mut answer) = (vec![9; room], vec![9; room], [0; size_of::<FoundArea>()]);
     let proved = store.find(&window, &mut rows, &mut answer);
-    let found = plain.state.search(&plain.nand, &plain.nor, plain.slots, &window, &mut plain_rows);
+    let found = plain.find(&window, &mut plain_rows);
     assert_eq!(proved, number(found), "numbers differ");
     assert!(rows == plain_rows, "rows differ");
-    assert_eq!(u64::from_le_bytes(answer) as usize, found.unwrap_or(0));
+    assert_eq!(found_in(&answer), found.unwrap_or_default(), "counts differ");
     seen[usize::from(proved)] += 1;
     same_counts(store, plain, t1, t2, seen);
 }

@@ -1,4 +1,5 @@
 //! The contenders at one S, filled with the same lifts, and the check that they answer alike.
+use crate::filled::Filled;
 use crate::gym::Gym;
 use crate::in_place::InPlace;
 use crate::lift::{Contender, Lift, RECORD_BYTES};
@@ -53,27 +54,24 @@ pub struct Field {
 }
 
 impl Field {
-    /// Enough lifts to fill the store and to force drops.
+    /// The others get what the store and (a) have retained.
     pub fn filled(slots: u64) -> Field {
+        let Filled { proved, in_place, gym, retained } = Filled::new(slots);
         let mut field = Field {
             slots,
-            proved: Proved::new(slots),
-            in_place: InPlace::new(slots),
+            proved,
+            in_place,
             sqlite: sqlite(),
             scan: Scan::default(),
             lmdb: lmdb(),
-            gym: Gym::new(20_260_701),
+            gym,
             rows: Vec::new(),
             span: (0, 0),
         };
-        let lifts = field.next_lifts(slots as usize * 330 + 2_000);
-        field.proved.append_all(&lifts);
-        field.in_place.append_all(&lifts);
-        let retained = &lifts[lifts.len() - field.proved.retained()..];
         for contender in field.contenders().into_iter().skip(2).flatten() {
-            contender.append_all(retained);
+            contender.append_all(&retained);
         }
-        field.settle(&lifts);
+        field.settle(&retained);
         field
     }
 

@@ -1,7 +1,7 @@
 //! The in-place implementation with its own state and chips.
 use crate::lift::{Contender, Lift};
 use crate::service_page::{lay_out, ServicePage};
-use plain::{Counts, Ground, State, Window, NOR_BYTES, SLOT_BYTES};
+use plain::{Counts, Found, Ground, State, Window, NOR_BYTES, SLOT_BYTES};
 
 #[derive(Clone)]
 pub struct InPlace {
@@ -24,6 +24,10 @@ impl InPlace {
         state.append(nand, nor, *slots, lift.time, lift.load, &lift.note)
     }
 
+    pub fn find(&self, window: &Window, rows: &mut [u8]) -> Result<Found, Ground> {
+        self.state.search(&self.nand, &self.nor, self.slots, window, rows)
+    }
+
     pub fn page(&self, t1: u64, t2: u64, page: &mut ServicePage) -> Result<(), Ground> {
         let counts = self.state.tally(&self.nand, &self.nor, self.slots, t1, t2)?;
         lay_out(t1, t2, &counts, page);
@@ -37,7 +41,7 @@ impl Contender for InPlace {
     }
 
     fn search(&mut self, window: &Window, rows: &mut [u8]) -> usize {
-        self.state.search(&self.nand, &self.nor, self.slots, window, rows).expect("a search")
+        self.find(window, rows).expect("a search").rows
     }
 
     fn tally(&mut self, t1: u64, t2: u64) -> Counts {

@@ -3,6 +3,7 @@ mod agree;
 mod carried;
 mod clock;
 mod field;
+mod filled;
 mod gym;
 mod in_place;
 #[cfg(any(sqlite, lmdb))]
@@ -11,10 +12,12 @@ mod lift;
 #[cfg(lmdb)]
 mod lmdb;
 mod measure;
+mod pages_read;
 mod proved;
 mod questions;
 mod report;
 mod scan;
+mod search_lines;
 mod service_page;
 #[cfg(sqlite)]
 mod sqlite;
@@ -26,8 +29,8 @@ use carried::{backward, Carried, OldStore};
 use field::Field;
 use measure::{append_ratio, appends, conversions, lookups, page, searches, tallies, Line};
 use plain::Counts;
-use proved::Proved;
-use questions::{everything, five_plates, Questions};
+use proved::{FoundArea, Proved};
+use questions::{everything, five_plates, Asked};
 use service_page::ServicePage;
 
 const SIZES: [u64; 3] = [2, 64, 4_096];
@@ -39,28 +42,22 @@ fn measured(slots: u64) -> (Field, Vec<Line>) {
     field.check_bytes();
     field.check_searches(&[everything(&field), five_plates(&field)]);
     let append = appends(&mut field, report::APPEND);
-    let mut asked = Questions::new(&field);
-    // Fewer questions where each takes long.
-    let (days, wide) = if slots > 1_000 { (64, 4) } else { (64, 16) };
-    let recent = asked.days(days, 30);
-    let any = asked.days(days, u64::MAX);
-    let whole = asked.whole_log(wide);
-    let absent = asked.absent(wide);
+    let Asked { recent_days, any_days, whole_log, absent } = Asked::of(slots, field.span);
     println!(
         "S = {slots}: {} lifts retained; chips and state of (a) are the store's, byte for byte.",
         field.retained()
     );
     let mut lines = vec![
         append,
-        searches(&mut field, report::RECENT_DAY, &recent),
-        searches(&mut field, report::ANY_DAY, &any),
-        searches(&mut field, report::WHOLE_LOG, &whole),
+        searches(&mut field, report::RECENT_DAY, &recent_days),
+        searches(&mut field, report::ANY_DAY, &any_days),
+        searches(&mut field, report::WHOLE_LOG, &whole_log),
         searches(&mut field, report::ABSENT, &absent),
-        tallies(&mut field, report::TALLY_DAY, &any),
-        tallies(&mut field, report::TALLY_ALL, &whole[..1]),
+        tallies(&mut field, report::TALLY_DAY, &any_days),
+        tallies(&mut field, report::TALLY_ALL, &whole_log[..1]),
     ];
     if slots == PAGED_SIZE {
-        lines.push(page(&field, report::PAGE_ALL, &whole[0]));
+        lines.push(page(&field, report::PAGE_ALL, &whole_log[0]));
     }
     (field, lines)
 }
@@ -73,7 +70,8 @@ fn depths() -> Vec<(&'static str, usize)> {
     let mut rows = vec![0; field.rows.len()];
     let mut store = field.proved.clone();
     let append = stack::depth(|| assert!(lifts.iter().all(|lift| store.put(lift) == 0)));
-    let (mut answer, mut counts, mut page) = ([0; 8], [0; size_of::<Counts>()], [0; size_of::<ServicePage>()]);
+    let (mut found, mut plate) = ([0; size_of::<FoundArea>()], [0; 8]);
+    let (mut counts, mut page) = ([0; size_of::<Counts>()], [0; size_of::<ServicePage>()]);
     let old: &Proved = &field.proved;
     let mut closing = old.clone();
     let mut dropping = old.clone();
@@ -84,24 +82,37 @@ fn depths() -> Vec<(&'static str, usize)> {
         ("append, closing and dropping among 700", append),
         ("close", stack::depth(|| assert_eq!(closing.close(), 0))),
         ("drop", stack::depth(|| assert_eq!(dropping.drop_oldest(), 0))),
-        ("search", stack::depth(|| assert_eq!(old.find(&window, &mut rows, &mut answer), 0))),
+        ("search", stack::depth(|| assert_eq!(old.find(&window, &mut rows, &mut found), 0))),
         ("tally", stack::depth(|| assert_eq!(old.by_plate(window.t1, window.t2, &mut counts), 0))),
         ("page", stack::depth(|| assert_eq!(old.page(window.t1, window.t2, &mut page), 0))),
         (
             "plate, on either stack",
-            stack::depth(|| (0..2).for_each(|at| assert_eq!(Proved::plate(at, 2_500, &mut answer), 0))),
+            stack::depth(|| (0..2).for_each(|at| assert_eq!(Proved::plate(at, 2_500, &mut plate), 0))),
         ),
         ("forward", stack::depth(|| assert_eq!(carried.old.forward(&mut to_new), 0))),
         ("backward", stack::depth(|| assert_eq!(backward(&carried.new, &mut to_old), 0))),
     ]
 }
 
-/// The first argument names the archive's undefined symbols.
 fn main() {
-    let symbols = std::env::args().nth(1).unwrap_or_default();
+    let words: Vec<String> = std::env::args().skip(1).collect();
+    let words: Vec<&str> = words.iter().map(String::as_str).collect();
+    match words[..] {
+        ["report", symbols] => report(symbols),
+        ["pages"] => pages_read::print(),
+        ["searches"] => search_lines::print(),
+        _ => {
+            eprintln!("bench report SYMBOLS | bench pages | bench searches");
+            std::process::exit(2);
+        }
+    }
+}
+
+/// All contenders; `symbols` are the archive's undefined ones.
+fn report(symbols: &str) {
     let seen = agree::check();
     println!(
-        "Store and (a) give the same numbers, bytes, rows and pages on damaged chips, odd states and odd arguments;"
+        "Store and (a) give the same numbers, bytes, rows, counts and pages on damaged chips, odd states, odd arguments;"
     );
     println!("answers by number, 0 first: {seen:?}.");
     let [(mut small, first), (_, second), (mut large, third)] = SIZES.map(measured);
@@ -120,7 +131,7 @@ fn main() {
     report::stacks(&depths);
     report::plans(&large.sqlite_plans());
     println!();
-    report::targets(&lines, append_ratio(&mut small, &mut large), &depths, &symbols);
+    report::targets(&lines, append_ratio(&mut small, &mut large), &depths, symbols);
     println!("\n## Where others are faster\n");
     report::faster(&lines);
 }

@@ -2,6 +2,7 @@
 use crate::carried::{backward, backward_in_place, Carried, OldStore};
 use crate::clock;
 use crate::field::{Field, CONTENDERS};
+use crate::filled::Filled;
 use crate::gym::Gym;
 use crate::lift::{Contender, Lift};
 use crate::proved::Proved;
@@ -101,6 +102,17 @@ pub fn searches(field: &mut Field, call: &'static str, windows: &[Window]) -> Li
     Line { slots: Some(field.slots), call, found: found as f64 / windows.len() as f64, rounds }
 }
 
+/// Searches by the store and by (a) alone: the nanoseconds of each.
+pub fn searches_in_turns(filled: &mut Filled, windows: &[Window]) -> [Rounds; 2] {
+    let mut rows = filled.result_area();
+    let Filled { proved, in_place, .. } = filled;
+    let [store, plain, ..] = in_turns(|by| match by {
+        Side::Store => proved.search_all(windows, &mut rows),
+        Side::InPlace => in_place.search_all(windows, &mut rows),
+    });
+    [store, plain].map(|rounds| of_each(windows.len(), rounds))
+}
+
 pub fn tallies(field: &mut Field, call: &'static str, windows: &[Window]) -> Line {
     let found = field.check_tallies(windows);
     let rounds = repeated(field, windows, |contender, _| contender.tally_all(windows));
@@ -152,8 +164,12 @@ pub fn lookups(place: u64, call: &'static str) -> Line {
         Side::Store => loads.iter().for_each(|load| assert_eq!(Proved::plate(place, *load, &mut answer), 0)),
         Side::InPlace => loads.iter().for_each(|load| assert!(black_box(plate_on(place, *load)).is_ok())),
     });
-    let a_call = |ns: f64| ns / LOADS_LOOKED_UP as f64;
-    Line { slots: None, call, found: 0.0, rounds: rounds.map(|rounds| rounds.into_iter().map(a_call).collect()) }
+    Line { slots: None, call, found: 0.0, rounds: rounds.map(|rounds| of_each(LOADS_LOOKED_UP, rounds)) }
+}
+
+/// The time of one call where so many were made at once.
+fn of_each(calls: usize, rounds: Rounds) -> Rounds {
+    rounds.into_iter().map(|ns| ns / calls as f64).collect()
 }
 
 /// The two contenders that keep the store's bytes.

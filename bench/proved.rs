@@ -1,7 +1,7 @@
 //! The store over its C interface, `store_abi`.
 use crate::lift::{Contender, Lift};
 use crate::service_page::ServicePage;
-use plain::{Counts, Window, NOR_BYTES, SLOT_BYTES, STATE_BYTES, TIME_MAX};
+use plain::{Counts, Found, PagesRead, Window, NOR_BYTES, SLOT_BYTES, STATE_BYTES, TIME_MAX};
 
 extern "C" {
     fn store_format(
@@ -89,8 +89,21 @@ extern "C" {
     fn store_plate(place: u64, load: i32, answer: *mut u8, answer_len: usize) -> u8;
 }
 
+/// A search's answer area: rows, header pages, Bloom pages and tree pages, eight bytes each.
+pub type FoundArea = [u8; 32];
 /// A tally's answer area.
 pub type CountsArea = [u8; size_of::<Counts>()];
+
+/// Number i of an answer area.
+fn number_in(area: &[u8], i: usize) -> u64 {
+    u64::from_le_bytes(area[8 * i..8 * i + 8].try_into().unwrap())
+}
+
+/// What an accepted search wrote into its answer area.
+pub fn found_in(area: &FoundArea) -> Found {
+    let pages = |i| number_in(area, i).try_into().expect("a count of pages");
+    Found { rows: number_in(area, 0) as usize, pages: PagesRead { header: pages(1), bloom: pages(2), tree: pages(3) } }
+}
 
 /// State and chips as the console holds them; each call hands back its number.
 #[derive(Clone)]
@@ -165,7 +178,7 @@ impl Proved {
         }
     }
 
-    pub fn find(&self, w: &Window, rows: &mut [u8], answer: &mut [u8; 8]) -> u8 {
+    pub fn find(&self, w: &Window, rows: &mut [u8], answer: &mut FoundArea) -> u8 {
         let Proved { state, nand, nor, slots } = self;
         unsafe {
             store_search(
@@ -242,14 +255,14 @@ impl Contender for Proved {
     }
 
     fn search(&mut self, window: &Window, rows: &mut [u8]) -> usize {
-        let mut answer = [0; 8];
+        let mut answer = [0; size_of::<FoundArea>()];
         assert_eq!(self.find(window, rows, &mut answer), 0, "the store refuses a search");
-        u64::from_le_bytes(answer) as usize
+        number_in(&answer, 0) as usize
     }
 
     fn tally(&mut self, t1: u64, t2: u64) -> Counts {
         let mut answer = [0; size_of::<Counts>()];
         assert_eq!(self.by_plate(t1, t2, &mut answer), 0, "the store refuses a tally");
-        std::array::from_fn(|i| u64::from_le_bytes(answer[8 * i..8 * i + 8].try_into().unwrap()))
+        std::array::from_fn(|i| number_in(&answer, i))
     }
 }

@@ -6,15 +6,38 @@ use plain::{Window, LOAD_MAX, LOAD_MIN};
 /// A range of loads two plates wide.
 const RANGE: i32 = 1_000;
 
-pub struct Questions {
+/// What is asked for in each line of searches and tallies.
+pub struct Asked {
+    pub recent_days: Vec<Window>,
+    pub any_days: Vec<Window>,
+    pub whole_log: Vec<Window>,
+    pub absent: Vec<Window>,
+}
+
+impl Asked {
+    pub fn of(slots: u64, span: (u64, u64)) -> Asked {
+        let mut questions = Questions::new(slots, span);
+        // Fewer questions where each takes long.
+        let (days, wide) = if slots > 1_000 { (64, 4) } else { (64, 16) };
+        Asked {
+            recent_days: questions.days(days, 30),
+            any_days: questions.days(days, u64::MAX),
+            whole_log: questions.whole_log(wide),
+            absent: questions.absent(wide),
+        }
+    }
+}
+
+struct Questions {
     random: Random,
     first: u64,
     last: u64,
 }
 
 impl Questions {
-    pub fn new(field: &Field) -> Questions {
-        Questions { random: Random(field.slots), first: field.span.0, last: field.span.1 }
+    /// Of a store of so many slots, with its first and last time retained.
+    fn new(slots: u64, (first, last): (u64, u64)) -> Questions {
+        Questions { random: Random(slots), first, last }
     }
 
     fn loads(&mut self) -> (i32, i32) {
@@ -23,7 +46,7 @@ impl Questions {
     }
 
     /// Days of training among the last so many, each with a range of loads.
-    pub fn days(&mut self, n: usize, among_last: u64) -> Vec<Window> {
+    fn days(&mut self, n: usize, among_last: u64) -> Vec<Window> {
         let (first, last) = (self.first / DAY, self.last / DAY);
         let from = first.max(last.saturating_sub(among_last - 1));
         let mut windows = Vec::new();
@@ -37,7 +60,7 @@ impl Questions {
         windows
     }
 
-    pub fn whole_log(&mut self, n: usize) -> Vec<Window> {
+    fn whole_log(&mut self, n: usize) -> Vec<Window> {
         (0..n)
             .map(|_| {
                 let (k1, k2) = self.loads();
@@ -47,7 +70,7 @@ impl Questions {
     }
 
     /// Loads that were never logged, within the segments' load spans.
-    pub fn absent(&mut self, n: usize) -> Vec<Window> {
+    fn absent(&mut self, n: usize) -> Vec<Window> {
         (0..n)
             .map(|_| {
                 let load = absent_load(self.random.within(-4, 14) as i32);

@@ -28,14 +28,19 @@ pub fn note(section: &mut [u8; SECTION_BYTES], code: u32) {
     }
 }
 
-/// Whether each bit of the load is set in some section of the closed segment.
-pub fn may_hold(slot: &[u8; SLOT_BYTES], count: u16, code: u32) -> bool {
+/// Whether each bit of the load is set in some section of the closed segment. Bits are tried up to the first that is not;
+/// `pages_read` grows by the pages that hold them.
+pub fn may_hold(slot: &[u8; SLOT_BYTES], count: u16, code: u32, pages_read: &mut u32) -> bool {
     let sections = sections_of(count);
     let length = fragment_of(sections);
-    bits_of(code).iter().all(|&(byte, mask)| {
+    let mut tried = 0u32;
+    let held = bits_of(code).iter().all(|&(byte, mask)| {
+        tried |= 1 << (byte / length);
         let fragments = page(slot, BLOOM_PAGE + byte / length);
         (0..sections).any(|j| fragments[j * length + byte % length] & mask != 0)
-    })
+    });
+    *pages_read += tried.count_ones();
+    held
 }
 
 /// Bloom page i of the open segment: whole sections from NOR, a part-filled one from the buffer.

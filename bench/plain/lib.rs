@@ -1,5 +1,5 @@
 //! The rules of document 01, in form 1 of W-202, in place and without proofs: the same chips and bytes, the state a struct that the
-//! calls change; W-203's conversions and W-205's lookup.
+//! calls change; W-203's conversions, W-205's lookup and W-207's counts.
 #![no_std]
 #![forbid(unsafe_code)]
 
@@ -19,7 +19,7 @@ mod tree;
 
 pub use form::{OldState, OLD_STATE_BYTES};
 pub use plate::{plate_of, plate_on, Counts};
-pub use query::Window;
+pub use query::{Found, PagesRead, Window};
 pub use state::{Pointer, State, STATE_BYTES};
 
 /// The grounds by their numbers.

@@ -1,7 +1,7 @@
 //! The matches of one segment: a set of 320 places, found by its tree.
 use crate::bytes::{page, slot, slot_of, u32_at, u64_at};
 use crate::query::{Asked, Log};
-use crate::tree::{Bucket, NO_CHILD, TREE_BYTES};
+use crate::tree::{Bucket, BUCKETS_PER_PAGE, NO_CHILD, TREE_BYTES};
 use crate::{Ground, LIFTS_PER_PAGE, PAGE_BYTES, RECORD_BYTES, SLOT_BYTES, TREE_PAGE};
 
 #[derive(Clone, Copy)]
@@ -65,13 +65,16 @@ impl<'a> Segment<'a> {
         area[from * RECORD_BYTES..][..RECORD_BYTES].try_into().unwrap()
     }
 
-    /// Buckets in rising order of their numbers: a child's is above its parent's.
-    pub fn matches(&self, asked: &Asked) -> Result<Matches, Ground> {
+    /// The places found and how many tree pages were read. Buckets in rising order of their numbers: a child's is above its
+    /// parent's.
+    pub fn matches(&self, asked: &Asked) -> Result<(Matches, u32), Ground> {
         let mut found = Matches([0; 5]);
         let mut due = 1u64;
+        let mut pages_read = 0u32;
         while due != 0 {
             let b = due.trailing_zeros() as u8;
             due &= due - 1;
+            pages_read |= 1 << (b / BUCKETS_PER_PAGE);
             let bucket = Bucket::read(self.tree, b, self.buckets, self.count)?;
             if let Some((mid, left, right)) = bucket.split {
                 if left != NO_CHILD && mid >= asked.k1 {
@@ -94,6 +97,6 @@ impl<'a> Segment<'a> {
                 }
             }
         }
-        Ok(found)
+        Ok((found, pages_read.count_ones()))
     }
 }

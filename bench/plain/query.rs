@@ -15,6 +15,22 @@ pub struct Window {
     pub k2: i32,
 }
 
+/// How many rows a search found, and what it read on the way.
+#[derive(Clone, Copy, Debug, Default, PartialEq, Eq)]
+pub struct Found {
+    pub rows: usize,
+    pub pages: PagesRead,
+}
+
+/// W-207: header pages that the skip walk moved onto; Bloom pages with a bit tried and tree pages with a bucket visited, of
+/// the closed segments after it.
+#[derive(Clone, Copy, Debug, Default, PartialEq, Eq)]
+pub struct PagesRead {
+    pub header: u32,
+    pub bloom: u32,
+    pub tree: u32,
+}
+
 /// A window within its limits, its loads as stored.
 pub struct Asked {
     pub t1: u64,
@@ -40,12 +56,12 @@ impl State {
         slots: u64,
         window: &Window,
         rows: &mut [u8],
-    ) -> Result<usize, Ground> {
+    ) -> Result<Found, Ground> {
         self.check(nand, nor, slots)?;
         let asked = window.check()?;
         let log = Log { state: self, nand, nor, slots };
         let mut total = 0;
-        log.visit(&asked, |_, matches| total += matches.len())?;
+        let pages = log.visit(&asked, |_, matches| total += matches.len())?;
         if rows.len() / RECORD_BYTES < total {
             return Err(Ground::AreaTooSmall);
         }
@@ -58,7 +74,7 @@ impl State {
             }
             end = start;
         })?;
-        Ok(total)
+        Ok(Found { rows: total, pages })
     }
 
     /// How many lifts of the time window belong to each plate.
@@ -93,47 +109,56 @@ impl Window {
 }
 
 impl<'a> Log<'a> {
-    /// Every segment that may hold a match, the newest first.
-    fn visit(&self, asked: &Asked, mut take: impl FnMut(&Segment<'a>, Matches)) -> Result<(), Ground> {
+    /// Every segment that may hold a match, the newest first; the pages read of closed ones are handed back.
+    fn visit(&self, asked: &Asked, mut take: impl FnMut(&Segment<'a>, Matches)) -> Result<PagesRead, Ground> {
         let state = self.state;
+        let mut pages = PagesRead::default();
         if state.count > 0 {
             let segment = Segment::open(self);
-            take(&segment, segment.matches(asked)?);
+            take(&segment, segment.matches(asked)?.0);
             if state.start < asked.t1 {
-                return Ok(());
+                return Ok(pages);
             }
         }
-        let (mut pointer, mut before) = self.newest_up_to(asked.t2)?;
+        let (mut pointer, mut before, moves) = self.newest_up_to(asked.t2)?;
+        pages.header = moves;
         while pointer.is_live(state.oldest) {
             let number = usize::from(pointer.slot);
             let header = Header::load(self.nand, number, self.slots, before)?;
-            if self.may_match(number, &header, asked) {
+            if self.may_match(number, &header, asked, &mut pages.bloom) {
                 let segment = Segment::closed(self.nand, number, header.count, header.buckets);
-                take(&segment, segment.matches(asked)?);
+                let (matches, tree_pages) = segment.matches(asked)?;
+                pages.tree += tree_pages;
+                take(&segment, matches);
             }
             if header.start < asked.t1 {
                 break;
             }
             (pointer, before) = (header.next[0], header.serial);
         }
-        Ok(())
+        Ok(pages)
     }
 
-    /// By the skip pointers, level 4 down to 1, to the newest closed segment with start not above t2.
-    fn newest_up_to(&self, t2: u64) -> Result<(Pointer, u32), Ground> {
-        let (mut pointers, mut before) = (self.state.heads, self.state.open);
+    /// By the skip pointers, level 4 down to 1, to the newest closed segment with start not above t2: its pointer, the serial
+    /// of the header before it, and how many headers were moved onto.
+    fn newest_up_to(&self, t2: u64) -> Result<(Pointer, u32, u32), Ground> {
+        let (mut pointers, mut before, mut moves) = (self.state.heads, self.state.open, 0);
         for level in (0..4).rev() {
             while pointers[level].is_live(self.state.oldest) && pointers[level].time > t2 {
                 let number = usize::from(pointers[level].slot);
                 let header = Header::load(self.nand, number, self.slots, before)?;
                 (pointers, before) = (header.next, header.serial);
+                moves += 1;
             }
         }
-        Ok((pointers[0], before))
+        Ok((pointers[0], before, moves))
     }
 
-    fn may_match(&self, number: usize, header: &Header, asked: &Asked) -> bool {
+    fn may_match(&self, number: usize, header: &Header, asked: &Asked, bloom_pages: &mut u32) -> bool {
         let meets = header.high >= asked.k1 && header.low <= asked.k2;
-        meets && (asked.k1 < asked.k2 || bloom::may_hold(slot(self.nand, number), header.count, asked.k1))
+        if !meets || asked.k1 < asked.k2 {
+            return meets;
+        }
+        bloom::may_hold(slot(self.nand, number), header.count, asked.k1, bloom_pages)
     }
 }

@@ -5,6 +5,7 @@ use crate::{Ground, BUCKETS_MAX, CODE_MAX, LIFTS_MAX, LOAD_OFFSET};
 
 pub const BUCKET_BYTES: usize = 128;
 pub const TREE_BYTES: usize = 4_608;
+pub const BUCKETS_PER_PAGE: u8 = 4;
 pub const MID_AT: usize = 8;
 pub const LEFT_AT: usize = 12;
 pub const RIGHT_AT: usize = 13;

@@ -1,4 +1,5 @@
 //! What was compared, counted, and which ground each call can meet.
+use crate::pages_read::PagesRead;
 use crate::stacks::ListFigures;
 use model::paper::{Closed, Said};
 use script::calls::{Call, Carry};
@@ -74,6 +75,7 @@ pub struct Figures {
     by_paper_log: u64,
     pub rows: u64,
     turns: Turns,
+    pub pages_read: PagesRead,
     pub wrong_lengths: u64,
     /// Calls on stores of form 0, which the model alone answers.
     of_form_0: u64,
@@ -134,5 +136,6 @@ impl Figures {
         );
         println!("calls on stores of form 0, answered by the model, to be carried over {}", self.of_form_0);
         self.turns.print();
+        self.pages_read.print();
     }
 }

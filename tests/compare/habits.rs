@@ -120,6 +120,29 @@ impl Habits {
         trial.call(Call::Search { slots: self.slots, window, area_bytes })
     }
 
+    /// A search of a window that ends before many segments.
+    pub fn search_early(&self, trial: &mut Trial) -> Step {
+        let random = &mut trial.random;
+        let (a, b) = (self.early_time(random), self.early_time(random));
+        let (t1, t2) = random.pick(&[(0, a), (0, a), (a, a), (a.min(b), a.max(b))]);
+        let (k1, k2) = self.loads(random);
+        self.search(trial, Window { t1, t2, k1, k2 })
+    }
+
+    /// A search for one load, of all times or of a window.
+    pub fn search_one_load(&self, trial: &mut Trial) -> Step {
+        let random = &mut trial.random;
+        let window = self.window(random);
+        let load = self.one_load(random);
+        self.search(trial, Window { k1: load, k2: load, ..window })
+    }
+
+    /// With room for all rows.
+    fn search(&self, trial: &mut Trial, window: Window) -> Step {
+        let area_bytes = trial.rows_found(self.slots, &window) * ROW_BYTES;
+        trial.call(Call::Search { slots: self.slots, window, area_bytes })
+    }
+
     fn known_lift(&self, random: &mut Random) -> (u64, i32) {
         if self.lifts.is_empty() {
             return (random.below(10), random.load(-10, 10));
@@ -128,13 +151,28 @@ impl Habits {
         self.lifts[self.lifts.len() - 1 - random.index(latest)]
     }
 
+    /// The starts of the latest segments, those that the store may still have.
+    fn latest_starts(&self) -> &[u64] {
+        &self.starts[self.starts.len().saturating_sub(self.slots as usize + 1)..]
+    }
+
     /// The time of a lift, the start of a segment, or a millisecond beside it.
     fn known_time(&self, random: &mut Random) -> u64 {
-        let time = match self.starts.len().min(self.slots as usize + 1) {
-            latest if latest > 0 && random.once_in(2) => self.starts[self.starts.len() - 1 - random.index(latest)],
+        let time = match self.latest_starts() {
+            [] => self.known_lift(random).0,
+            starts if random.once_in(2) => random.pick(starts),
             _ => self.known_lift(random).0,
         };
-        time.saturating_add(random.pick(&[0, 1, 1, 1, 2])).saturating_sub(1).min(LAST_TIME)
+        beside(time, random)
+    }
+
+    /// The start of a segment, rather an old one, or a millisecond beside it.
+    fn early_time(&self, random: &mut Random) -> u64 {
+        let time = match self.latest_starts() {
+            [] => self.known_lift(random).0,
+            starts => starts[random.index(starts.len()).min(random.index(starts.len()))],
+        };
+        beside(time, random)
     }
 
     fn window(&self, random: &mut Random) -> Window {
@@ -145,17 +183,33 @@ impl Habits {
             3 => (a, (a + 86_399_999).min(LAST_TIME)),
             _ => (a.min(b), a.max(b)),
         };
-        let (k, l) = (self.known_lift(random).1, self.known_lift(random).1);
-        let (k1, k2) = match random.below(6) {
-            0 | 1 => (k, k),
-            2 => {
-                let absent = (k + random.pick(&[-1, 1])).clamp(LEAST_LOAD, GREATEST_LOAD);
-                (absent, absent)
-            }
-            3 => (LEAST_LOAD, GREATEST_LOAD),
-            _ => (k.min(l), k.max(l)),
-        };
+        let (k1, k2) = self.loads(random);
         Window { t1, t2, k1, k2 }
+    }
+
+    /// One load, all loads, or the loads from one lift's to another's.
+    fn loads(&self, random: &mut Random) -> (i32, i32) {
+        match random.below(7) {
+            0..=3 => {
+                let load = self.one_load(random);
+                (load, load)
+            }
+            4 => (LEAST_LOAD, GREATEST_LOAD),
+            _ => {
+                let (k, l) = (self.known_lift(random).1, self.known_lift(random).1);
+                (k.min(l), k.max(l))
+            }
+        }
+    }
+
+    /// A load that was lifted, one beside it, or one between two lifted ones, mostly absent and in span.
+    fn one_load(&self, random: &mut Random) -> i32 {
+        let (k, l) = (self.known_lift(random).1, self.known_lift(random).1);
+        match random.below(4) {
+            0 | 1 => k,
+            2 => (k + random.pick(&[-1, 1])).clamp(LEAST_LOAD, GREATEST_LOAD),
+            _ => random.load(k.min(l), k.max(l)),
+        }
     }
 
     /// A call that grounds 1 and 4 to 9 are against, or that looks like one.
@@ -187,6 +241,11 @@ impl Habits {
             _ => Call::Search { slots, window, area_bytes: random.index(2000) },
         }
     }
+}
+
+/// The time, or a millisecond before or after it.
+fn beside(time: u64, random: &mut Random) -> u64 {
+    time.saturating_add(random.pick(&[0, 1, 1, 1, 2])).saturating_sub(1).min(LAST_TIME)
 }
 
 pub fn odd_slots(slots: u64, random: &mut Random) -> u64 {

@@ -9,8 +9,8 @@ use script::command::Command;
 use script::form::Form;
 
 const WRONG_LENGTH: u8 = 20;
-/// Of one number; of a tally and of a page, each with a plate less and as it is.
-const ANSWER_LENGTHS: [usize; 5] = [8, 168, 176, 943, 984];
+/// Of one number, as a search of form 0 has it; of a search; of a tally and of a page, each with a plate less and as it is.
+const ANSWER_LENGTHS: [usize; 6] = [8, 32, 168, 176, 943, 984];
 
 /// A length that a state area of this form does not have; it may be the other form's.
 fn wrong_length(form: Form, random: &mut Random) -> usize {

@@ -12,6 +12,7 @@ mod lines;
 mod lists;
 mod mids;
 mod page_rules;
+mod pages_read;
 mod patterns;
 mod programs;
 mod random;
@@ -20,6 +21,7 @@ mod shorten;
 mod stacks;
 mod states;
 mod trial;
+mod walks;
 
 use judge::{Difference, Judge, Step};
 use script::command::Command;
@@ -34,12 +36,13 @@ const USAGE: &str = "compare random SECONDS SEED FOLDER | compare fixed SCRIPT..
 
 type Kind = (&'static str, fn(&mut Trial) -> Step);
 const LARGE: Kind = ("large", lists::on_largest_chip);
-const KINDS: [Kind; 6] = [
+const KINDS: [Kind; 7] = [
     ("list", lists::short_or_long),
     ("damage", damage::rounds),
     ("state", states::rounds),
     ("edge", edges::rounds),
     ("convert", convert::rounds),
+    ("walk", walks::rounds),
     LARGE,
 ];
 
@@ -47,7 +50,7 @@ const KINDS: [Kind; 6] = [
 fn kind_at(place: u64) -> Kind {
     match place {
         place if place % 1000 == 100 => LARGE,
-        place => KINDS[[0, 1, 4, 0, 1, 2, 0, 4, 1, 3][(place % 10) as usize]],
+        place => KINDS[[0, 1, 4, 0, 5, 1, 2, 0, 4, 1, 3][(place % 11) as usize]],
     }
 }
 

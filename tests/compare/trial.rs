@@ -88,7 +88,7 @@ impl<'a> Trial<'a> {
     pub fn rows_found(&self, slots: u64, window: &Window) -> usize {
         match self.judge.log(self.form) {
             Some(log) => log.found(window).map_or(0, |found| found.len()),
-            None => found(self.form, self.areas(), slots, window).map_or(0, |found| found.len()),
+            None => found(self.form, self.areas(), slots, window).map_or(0, |found| found.records.len()),
         }
     }
 }

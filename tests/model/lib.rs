@@ -1,4 +1,4 @@
-//! Document 01, with W-201 to W-206, read a second time: the paper log, the programs' inputs, and an expectation of every
+//! Document 01, with W-201 to W-207, read a second time: the paper log, the programs' inputs, and an expectation of every
 //! byte.
 pub mod answers;
 pub mod bytes;

@@ -43,7 +43,7 @@ pub struct Said {
     pub repeats_time: bool,
     /// The rows of a search, one after another.
     pub rows: Vec<u8>,
-    /// Of a search the count of rows, of a tally or a page its counts, of a lookup the plate.
+    /// Of a search the count of rows (no log knows of pages read), of a tally or a page its counts, of a lookup the plate.
     pub values: Vec<u64>,
     /// The lines of a page.
     pub page: Vec<String>,
@@ -119,8 +119,12 @@ impl PaperLog {
         self.closed.iter().flatten().chain(&self.open)
     }
 
+    pub fn closed_segments(&self) -> u64 {
+        self.closed.len() as u64
+    }
+
     fn oldest_serial(&self) -> u64 {
-        self.open_serial - self.closed.len() as u64
+        self.open_serial - self.closed_segments()
     }
 
     /// The number of a call after the format, and what it does.

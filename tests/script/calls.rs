@@ -51,10 +51,11 @@ impl Call {
         Self::NAMES[self.kind()]
     }
 
-    /// A page has a heading, a line for each plate and a total.
+    /// Of a search count and pages read. A page has a heading, a line for each plate and a total.
     fn answer_bytes(&self, form: Form) -> usize {
         match self {
-            Call::Search { .. } | Call::Plate { .. } => 8,
+            Call::Search { .. } => 8 * (1 + form.page_counts()),
+            Call::Plate { .. } => 8,
             Call::Tally { .. } => 8 * form.counts(),
             Call::Page { .. } => (1 + form.counts() + 1) * (PAGE_COLUMNS + 1),
             _ => 0,
@@ -90,7 +91,7 @@ impl Carry {
 #[derive(Clone, Debug, PartialEq)]
 pub struct Outputs {
     pub rows: Vec<u8>,
-    /// Numbers of eight bytes: a search's count, a tally's counts, a plate; or the lines of a page.
+    /// Numbers of eight bytes: a search's count and pages read, a tally's counts, a plate; or the lines of a page.
     pub answer: Vec<u8>,
 }
 
@@ -108,9 +109,9 @@ impl Outputs {
         self.answer.chunks_exact(8).map(|bytes| u64::from_le_bytes(bytes.try_into().unwrap()))
     }
 
-    /// The only number of an answer.
-    pub fn value(&self) -> u64 {
-        self.values().next().expect("an answer of one number")
+    /// How many rows a search found: the first number of its answer.
+    pub fn count(&self) -> u64 {
+        self.values().next().expect("the answer of a search")
     }
 }
 

@@ -37,6 +37,15 @@ impl Form {
         self.last_plate() + 1
     }
 
+    /// How many counts of pages read a search has beside its count of rows: header, Bloom and tree pages, in form 1 alone
+    /// (W-207).
+    pub const fn page_counts(self) -> usize {
+        match self {
+            Form::Old => 0,
+            Form::New => 3,
+        }
+    }
+
     /// "so a pointer gains its serial: slot 2, serial 4, time 8" (W-202)
     pub const fn serial_bytes(self) -> usize {
         match self {

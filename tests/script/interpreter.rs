@@ -89,10 +89,12 @@ impl<S: Store> Interpreter<S> {
         let mut line = format!("{} {number}", command_name(form, call));
         match call {
             Call::Search { .. } => {
-                let count = if accepted { outputs.value() } else { 0 };
-                let found = (count as usize).saturating_mul(ROW_BYTES).min(outputs.rows.len());
+                let values: Vec<u64> = outputs.values().map(|value| if accepted { value } else { 0 }).collect();
+                let (count, pages_read) = values.split_first().expect("the answer of a search");
+                let found = (*count as usize).saturating_mul(ROW_BYTES).min(outputs.rows.len());
                 self.found = outputs.rows[..found].to_vec();
                 line += &format!(" {count} {:016x}", fnv1a(&outputs.rows));
+                pages_read.iter().for_each(|pages| line += &format!(" {pages}"));
                 self.result_area = outputs.rows;
             }
             Call::Tally { .. } | Call::Plate { .. } if accepted => {

@@ -17,7 +17,7 @@ unfolding ones
 zero-ones = refl
 
 -- where a test tells the digits of an x of k digits, it picks as many numbers as x has ones
-word-count : (f : ℕ → Bool) (base k x : ℕ) → ((j : ℕ) → j < k → f (base + j) ≡ eqb (bit x j) 1) → x < 2 ^ k
+pub word-count : (f : ℕ → Bool) (base k x : ℕ) → ((j : ℕ) → j < k → f (base + j) ≡ eqb (bit x j) 1) → x < 2 ^ k
     → length (picked f base k) ≡ ones x
 unfolding picked
 word-count f base zero x h l = let e : x ≡ 0 = omega arith in rw e zero-ones

@@ -6,3 +6,4 @@ pub mod Same
 pub mod Counting
 pub mod Emptying
 pub mod Words
+pub mod Distinct

@@ -13,3 +13,8 @@ picked f from (suc n) = cond (f from) (from ∷ picked f (suc from) n) (picked f
 unfoldable pub elem : ℕ → List ℕ → Bool
 elem p [] = false
 elem p (q ∷ qs) = eqb p q || elem p qs
+
+-- how many numbers stand in a list, each counted once
+unfoldable pub distinct : List ℕ → ℕ
+distinct [] = 0
+distinct (p ∷ ps) = cond (elem p ps) (distinct ps) (suc (distinct ps))

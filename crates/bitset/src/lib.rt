@@ -37,7 +37,8 @@ pub fn lowest(x: u64) -> usize
     u64::trailing_zeros(x) as usize
 }
 
-fn ones(x: u64) -> u32
+// How many bits are set.
+pub fn ones(x: u64) -> u32
     ensures { λ r. ⌜ (r ≡ Count.ones x) × (r ≤ 64) ⌝ }
 {
     u64::count_ones(x)

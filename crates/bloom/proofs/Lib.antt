@@ -6,3 +6,4 @@ pub mod Stored
 pub mod Filling
 pub mod Pages
 pub mod Turns
+pub mod BitsTried

@@ -1,12 +1,12 @@
--- What `bloom_page`, `in_some` and `may_hold` go by: the code's numbers of sections and fragment bytes are the definitions'.
+-- What `bloom_page` and `in_some` go by: the code's numbers of sections and fragment bytes are the definitions'.
 use mathlib.Core.Path.{_≡_, sym, ap, _∙_}
-use mathlib.Core.Bool.{Bool, true, false, _&&_, _||_}
+use mathlib.Core.Bool.{Bool, true, false, _||_}
 use mathlib.Core.List.{List, []}
 use Prim.Native.Nat.{ℕ, suc, _+_, _-_, _*_, _/_, _≤_, _<_, min}
 use native.Mathlib.Nat.{mul-le-mul-right, suc-mul}
 use native.Mathlib.Omega.{arith}
 use lib.ListN.{length, getD, List·getD-eq-default}
-use Rattle.bloom.specs.Bloom.{bloomBit, inByte, isSet, atBits, someSet, mayHold}
+use Rattle.bloom.specs.Bloom.{inByte, isSet, someSet}
 use Rattle.bloom.specs.Pages.{each, sectionCount, fragmentLength, sectionsFrom, bloomPage, sectionIn, sectionsIn}
 use Rattle.codec.specs.Area.{part, splice}
 use Rattle.codec.proofs.Areas.{length-part, getD-part}
@@ -114,12 +114,3 @@ module _ (f : ℕ → List ℕ) (b j s : ℕ) where
   pub some-none : s ≤ j → false ≡ someSet (each f j (s - j)) b
   unfolding each someSet
   some-none h = let e : s - j ≡ 0 = omega arith in rw e
-
--- ---- the three answers of `may_hold`
-
-pub three-bits : (pages : List ℕ) (s count code b₀ b₁ b₂ : ℕ) (x y z : Bool) → s ≡ sectionCount count
-    → b₀ ≡ bloomBit 0 (code - 1) → b₁ ≡ bloomBit 1 (code - 1) → b₂ ≡ bloomBit 2 (code - 1)
-    → x ≡ someSet (sectionsIn pages s) b₀ → y ≡ someSet (sectionsIn pages s) b₁ → z ≡ someSet (sectionsIn pages s) b₂
-    → (x && (y && z)) ≡ mayHold (sectionsIn pages (sectionCount count)) code
-unfolding mayHold atBits
-three-bits pages s count code b₀ b₁ b₂ x y z e f g h p q r = rw (p, q, r, f, g, h, e)

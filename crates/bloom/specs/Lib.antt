@@ -1,3 +1,4 @@
 pub mod Bloom
 pub mod Pages
+pub mod Tried
 pub mod Inner

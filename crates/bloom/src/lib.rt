@@ -1,18 +1,26 @@
 // Bloom sections of 1,024 bits, and the two Bloom pages (document 01, "Bloom and skip list").
 use flash::PAGE_BYTES;
 ghost use mathlib.Core.Path.{_≡_};
-ghost use mathlib.Core.List.{[]};
+ghost use mathlib.Core.List.{[], _∷_};
 ghost use Prim.Native.Nat.{_+_, _*_, _-_, _^_, _%_, _/_, _<_, _≤_, min};
 ghost use lib.ListN.{length, getD};
 ghost use Rattle.codec.specs.Area.{part, splice};
 ghost use Rattle.flash.specs.Chip.{norWidth};
 ghost use Rattle.bloom.specs.Bloom.{bloomBit, setIn, inByte, noted, emptySection, someSet, mayHold};
+ghost use Rattle.bitset.specs.Set.{distinct};
+ghost use Rattle.bloom.specs.Tried.{bitPage, pagesTried};
 ghost use Rattle.bloom.specs.Pages.{sectionCount, fragmentLength, sectionsFrom, bloomPage, sectionIn, sectionsIn};
 
 // "sections of 128", 1,024 bits, each of 64 lifts
 pub const SECTION_BYTES: usize = 128;
 
 pub const LIFTS_PER_SECTION: usize = 64;
+
+// Whether a load may be in a segment, and how many of its Bloom pages hold a bit that was tried.
+pub struct Tried {
+    pub held: bool,
+    pub pages: u8,
+}
 
 // Which of a load's three bits.
 pub fn bloom_bit(code: u32, which: u8) -> u16
@@ -183,15 +191,57 @@ fn in_some(pages: &[u8], s: usize, l: usize, b: u16) -> bool
     false
 }
 
-// Whether the load may be in the segment.
-pub fn may_hold(pages: &[u8], count: u16, code: u32) -> bool
+// The Bloom page, 0 or 1, that holds bit b, with fragments of l bytes.
+fn bit_page(b: u16, l: usize) -> u8
+    requires { ⌜ (b < 1024) × (128 ≤ 2 * l) ⌝ }
+    ensures { λ r. ⌜ (r ≡ bitPage l b) × (r < 2) ⌝ }
+{
+    if ((b / 8) as usize) < l { 0 } else { 1 }
+}
+
+// On how many pages two bits stand, and three, by the page of each.
+fn pages_of_two(a: u8, b: u8) -> u8
+    ensures { λ r. ⌜ r ≡ distinct (a ∷ b ∷ []) ⌝ }
+{
+    if a == b { 1 } else { 2 }
+}
+
+fn pages_of_three(a: u8, b: u8, c: u8) -> u8
+    requires { ⌜ (a < 2) × (b < 2) × (c < 2) ⌝ }
+    ensures { λ r. ⌜ r ≡ distinct (a ∷ b ∷ c ∷ []) ⌝ }
+{
+    if a == b { pages_of_two(b, c) } else { 2 }
+}
+
+// The bits of a load tried in turn, up to the first that is clear in all sections; `pages` are both Bloom pages.
+pub fn try_bits(pages: &[u8], count: u16, code: u32) -> Tried
     requires { ⌜ (1024 ≤ length (now pages)) × (1 ≤ count) × (count ≤ 320) × (1 ≤ code) ⌝ }
-    ensures { λ r. ⌜ r ≡ mayHold (sectionsIn (now (pages .entry)) (sectionCount count)) code ⌝ }
+    ensures held { λ r. ⌜ r .held ≡ mayHold (sectionsIn (now (pages .entry)) (sectionCount count)) code ⌝ }
+    ensures pages { λ r. ⌜ r .pages ≡ pagesTried (sectionsIn (now (pages .entry)) (sectionCount count)) code ⌝ }
 {
     let s = sections_of(count);
     let l = fragment_of(s);
-    let first = in_some(pages, s, l, bloom_bit(code, 0));
-    let second = in_some(pages, s, l, bloom_bit(code, 1));
-    let third = in_some(pages, s, l, bloom_bit(code, 2));
-    first & (second & third)
+    let first = bloom_bit(code, 0);
+    if !in_some(pages, s, l, first) {
+        return Tried {
+            held: false,
+            pages: 1,
+        };
+    }
+    let second = bloom_bit(code, 1);
+    let a = bit_page(first, l);
+    let b = bit_page(second, l);
+    if !in_some(pages, s, l, second) {
+        return Tried {
+            held: false,
+            pages: pages_of_two(a, b),
+        };
+    }
+    let third = bloom_bit(code, 2);
+    let c = bit_page(third, l);
+    let held = in_some(pages, s, l, third);
+    Tried {
+        held,
+        pages: pages_of_three(a, b, c),
+    }
 }

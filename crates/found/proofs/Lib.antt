@@ -1,7 +1,9 @@
 pub mod Wide
 pub mod Matched
+pub mod Falling
 pub mod Segments
 pub mod Most
 pub mod Counts
+pub mod PagesMost
 pub mod Placed
 pub mod All

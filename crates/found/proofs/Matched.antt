@@ -24,6 +24,7 @@ use Rattle.visit.specs.Inner.Sound.{ClosedSound, closedRecords}
 use Rattle.visit.proofs.Emptying.{recorded-at}
 use Rattle.visit.proofs.Matched.{Places, matches-places}
 use Rattle.visit.proofs.Areas.{closed-recorded}
+use Rattle.found.specs.declared.Pages.{Pages}
 use Rattle.found.specs.Inner.Turns.{rowsIn, countOf, countedWith}
 use Rattle.found.proofs.Wide.{Wide}
 
@@ -54,10 +55,10 @@ module _ (count : ℕ) (f : ℕ → List ℕ) where
   rows-wide h (some ps) p = wide-below h ps (p .0)
 
   module _ (m : Sweep) where
-    pub rows-counted : (o : Option (List ℕ)) → Places count o → m ≡ sweptFrom emptyWords o → (total : ℕ)
-        → countedWith total m ≡ countOf total (rowsAt f o)
-    rows-counted none p is total = rw is
-    rows-counted (some ps) p is total = rw (is, p .1, length-map ps f)
+    pub rows-counted : (o : Option (List ℕ)) → Places count o → m ≡ sweptFrom emptyWords o → (total : ℕ) (pages : Pages)
+        → countedWith total pages m ≡ countOf total pages (rowsAt f o)
+    rows-counted none p is total pages = rw is
+    rows-counted (some ps) p is total pages = rw (is, p .1, length-map ps f)
 
     pub rows-none : (o : Option (List ℕ)) → m ≡ sweptFrom emptyWords o → m .good ≡ false → rowsAt f o ≡ none
     rows-none none is e = refl
@@ -106,9 +107,9 @@ module _ (nand : List ℕ) (s : Closed) (q : Query) where
       (closedMatches nand s q) closed-places
 
   module _ (m : Sweep) (is : m ≡ sweptFrom emptyWords (closedMatches nand s q)) where
-    pub closed-counted : (total : ℕ) → countedWith total m ≡ countOf total (closedRows nand s q)
+    pub closed-counted : (total : ℕ) (pages : Pages) → countedWith total pages m ≡ countOf total pages (closedRows nand s q)
     unfolding closedRows
-    closed-counted total = rows-counted (s .count) _ m (closedMatches nand s q) closed-places is total
+    closed-counted total pages = rows-counted (s .count) _ m (closedMatches nand s q) closed-places is total pages
 
     pub closed-rows-are : map (recordIn (closedLifts nand s) (closedLifts nand s) 320) (members (m .set .words))
         ≡ rowsIn (closedRows nand s q)
@@ -144,8 +145,8 @@ module _ (nand nor page : List ℕ) (g : Log) (q : Query) where
   open-some h = let z = ne-eqb (g .count) 0 h in rw z
 
   module _ (h : g .count ≡ 0 → ⊥) (m : Sweep) (is : m ≡ sweptFrom emptyWords (openMatches nand nor page g q)) where
-    pub open-counted : (total : ℕ) → countedWith total m ≡ countOf total (openRows nand nor page g q)
-    open-counted total = rw (open-some h) (rows-counted (g .count) _ m (openMatches nand nor page g q) open-places is total)
+    pub open-counted : (total : ℕ) (pages : Pages) → countedWith total pages m ≡ countOf total pages (openRows nand nor page g q)
+    open-counted total pages = rw (open-some h) (rows-counted (g .count) _ m (openMatches nand nor page g q) open-places is total pages)
 
     pub open-rows-are : map (recordIn (openLifts nand g) page (inFullPages (g .count))) (members (m .set .words))
         ≡ rowsIn (openRows nand nor page g q)

@@ -148,7 +148,7 @@ module _ (nand : List ℕ) (slots : ℕ) (live : Live) (q : Query) (size : lengt
 
       go : (s : Step) → StepFacts nand slots (c .before) s → SerialRead nand s
           → ((d : Cursor) → Sound slots d → AtMost (320 * left (d .before)) (from d))
-          → AtMost (320 * left (c .before)) (after nand slots live q size from s)
+          → AtMost (320 * left (c .before)) (after nand slots live q size from c s)
       go End f r ih = omega arith
       go Damage f r ih = tt
       go (Pass d) f r ih =

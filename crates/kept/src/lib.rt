@@ -4,6 +4,7 @@ use plate::PLATES;
 use store::Answer;
 use store::OldState;
 ghost use mathlib.Core.Path.{_≡_};
+ghost use mathlib.Core.List.{[], _∷_};
 ghost use Prim.Native.Nat.{_*_, _^_, _<_};
 ghost use lib.ListN.{length};
 ghost use Rattle.form.specs.declared.Form.the-variants.{Old, New};
@@ -17,6 +18,9 @@ ghost use Rattle.kept.specs.Kept.{kept};
 
 // A count, or a plate.
 pub const NUMBER_BYTES: usize = 8;
+
+// A search's count and its three counts of pages.
+pub const SEARCH_BYTES: usize = 32;
 
 // The next state goes into its area if the call was accepted.
 pub fn keep_state(area: &mut [u8], a: Answer) -> u8
@@ -50,6 +54,20 @@ pub fn keep_number(answer: &mut [u8], number: u8, value: u64)
 {
     if number == 0 {
         codec::put_u64(answer, 0, value);
+    }
+}
+
+// The count and the pages of a search go into the area of the answer if it was accepted.
+pub fn keep_search(answer: &mut [u8], number: u8, count: u64, headers: u64, bloom: u64, tree: u64)
+    requires { ⌜ length (now answer) ≡ 32 ⌝ }
+    ensures { λ _. ⌜ now (answer .exit)
+        ≡ kept number (sideBySide (bytes 8) (count ∷ headers ∷ bloom ∷ tree ∷ [])) (now (answer .entry)) ⌝ }
+{
+    if number == 0 {
+        codec::put_u64(answer, 0, count);
+        codec::put_u64(answer, 8, headers);
+        codec::put_u64(answer, 16, bloom);
+        codec::put_u64(answer, 24, tree);
     }
 }
 

@@ -19,7 +19,8 @@ use Rattle.skiplist.specs.Skip.{serialsFrom, inSlots}
 use Rattle.visit.specs.declared.Log.{Log}
 use Rattle.visit.specs.Inner.Sound.{InSlots, LogSound}
 use Rattle.found.specs.Found.{foundRows}
-use Rattle.search.specs.Answers.{SearchAnswer, searchAnswer}
+use Rattle.found.specs.Pages.{pagesRead}
+use Rattle.search.specs.Answers.{SearchAnswer, refusedAnswer, searchAnswer}
 use Rattle.tally.specs.Answers.{TallyAnswer, tallyAnswer}
 use Rattle.bounds.specs.Grounds.{ground, nandBad, norBad, queryGround}
 use Rattle.bounds.proofs.Within as Within
@@ -90,14 +91,15 @@ loads-ok t1 t2 k1 k2 e =
 module _ (nand nor : List ℕ) (s : State) (slots t1 t2 : ℕ) (k1 k2 : ℤ) (area : List ℕ) (n : ℕ)
     (judged : n ≡ searchGround (world nand nor s) slots t1 t2 k1 k2) where
   pub search-refused : (n ≡ 0 → ⊥)
-      → _≡_ {A = SearchAnswer} (record { number = n; count = 0; area = area }) (searchOutcome (world nand nor s) slots t1 t2 k1 k2 area)
+      → refusedAnswer n area ≡ searchOutcome (world nand nor s) slots t1 t2 k1 k2 area
   unfolding searchOutcome
   search-refused h = rw (← judged, ne-eqb n 0 h)
 
   -- g, the page and the loads as the code has them
   pub search-done : n ≡ 0 → (g : Log) (page : List ℕ) (low high : ℕ) → g ≡ logOf s slots → page ≡ s .page → low ≡ stored k1
       → high ≡ stored k2 → (a : SearchAnswer)
-      → a ≡ searchAnswer area (foundRows nand nor page g (serialsFrom (g .oldest)) (record { t1 = t1; t2 = t2; k1 = low; k2 = high }))
+      → a ≡ searchAnswer area (pagesRead nand g (serialsFrom (g .oldest)) (record { t1 = t1; t2 = t2; k1 = low; k2 = high }))
+      (foundRows nand nor page g (serialsFrom (g .oldest)) (record { t1 = t1; t2 = t2; k1 = low; k2 = high }))
       → a ≡ searchOutcome (world nand nor s) slots t1 t2 k1 k2 area
   unfolding searchOutcome
   search-done z g page low high e p l h a f = rw (← judged, z) (f ∙ rw (e, p, l, h))

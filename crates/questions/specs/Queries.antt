@@ -10,7 +10,8 @@ use Rattle.plate.specs.Plate.{noCounts}
 use Rattle.visit.specs.declared.Log.{Log}
 use Rattle.visit.specs.declared.Query.{Query}
 use Rattle.found.specs.Found.{foundRows}
-use Rattle.search.specs.Answers.{SearchAnswer, searchAnswer}
+use Rattle.found.specs.Pages.{pagesRead}
+use Rattle.search.specs.Answers.{SearchAnswer, searchAnswer, refusedAnswer}
 use Rattle.tally.specs.Answers.{TallyAnswer, tallyAnswer}
 use Rattle.bounds.specs.Grounds.{queryGround}
 use Rattle.store.specs.declared.State.{State}
@@ -37,13 +38,14 @@ queryOf t1 t2 k1 k2 = record { t1 = t1; t2 = t2; k1 = stored k1; k2 = stored k2 
 unfoldable pub searchGround : World → ℕ → ℕ → ℕ → ℤ → ℤ → ℕ
 searchGround w slots t1 t2 k1 k2 = stateGround w slots (queryGround t1 t2 k1 k2)
 
--- grounds 10 and 12, then the rows
+-- grounds 10 and 12, then the rows and the pages read
 unfoldable pub searchOutcome : World → ℕ → ℕ → ℕ → ℤ → ℤ → List ℕ → SearchAnswer
 searchOutcome w slots t1 t2 k1 k2 area =
     let n = searchGround w slots t1 t2 k1 k2 in
     cond (eqb n 0)
-    (searchAnswer area (foundRows (w .nand) (w .nor) (w .state .page) (logOf (w .state) slots) (livenessOf w) (queryOf t1 t2 k1 k2)))
-    (record { number = n; count = 0; area = area })
+    (searchAnswer area (pagesRead (w .nand) (logOf (w .state) slots) (livenessOf w) (queryOf t1 t2 k1 k2))
+    (foundRows (w .nand) (w .nor) (w .state .page) (logOf (w .state) slots) (livenessOf w) (queryOf t1 t2 k1 k2)))
+    (refusedAnswer n area)
 
 -- "it counts what a search over all loads finds, and refuses as that would, ground 12 aside"
 unfoldable pub tallyOutcome : World → ℕ → ℕ → ℕ → TallyAnswer

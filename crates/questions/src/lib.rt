@@ -40,7 +40,7 @@ pub fn search(
     k2: i32,
     area: &mut [u8],
 ) -> Found
-    ensures { λ r. ⌜ _≡_ {A = SearchAnswer} (record { number = r .number; count = r .count; area = now (area .exit) })
+    ensures { λ r. ⌜ _≡_ {A = SearchAnswer} (record { number = r .number; count = r .count; pages = r .pages; area = now (area .exit) })
         (searchOutcome (world (now (nand .entry)) (now (nor .entry)) s) slots t1 t2 k1 k2 (now (area .entry))) ⌝ }
 {
     let n = s.ground(Form::New, 0, nand.len(), nor.len(), slots);

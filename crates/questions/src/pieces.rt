@@ -34,21 +34,15 @@ pub fn search_from(
     requires { ⌜ length (now page) ≡ pageWidth ⌝ }
     ensures { λ r. ⌜ ((s : State) (slots : ℕ) → n ≡ boundsGround New s 0 (length (now (nand .entry))) (length (now (nor .entry))) slots
         → g ≡ logOf s slots → now (page .entry) ≡ s .page
-        → _≡_ {A = SearchAnswer} (record { number = r .number; count = r .count; area = now (area .exit) })
+        → _≡_ {A = SearchAnswer} (record { number = r .number; count = r .count; pages = r .pages; area = now (area .exit) })
         (searchOutcome (world (now (nand .entry)) (now (nor .entry)) s) slots t1 t2 k1 k2 (now (area .entry)))) ⌝ }
 {
     if n != 0 {
-        return Found {
-            number: n,
-            count: 0,
-        };
+        return search::refused(n);
     }
     let m = bounds::query_ground(t1, t2, k1, k2);
     if m != 0 {
-        return Found {
-            number: m,
-            count: 0,
-        };
+        return search::refused(m);
     }
     let low = lift::stored(k1);
     let high = lift::stored(k2);

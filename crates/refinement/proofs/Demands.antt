@@ -8,6 +8,7 @@ use native.Mathlib.Omega.{arith}
 use borrow.Author.Tests.{eq-eqb}
 use lib.Dec.{eqb, leb, ltb}
 use lib.ListN.{length, getD}
+use lib.IntN.{ℤ}
 use lib.Signed.{ltZ}
 use Rattle.form.specs.declared.Form.{Form}
 use Rattle.lift.specs.Limits.{timeOk, loadOk}
@@ -17,12 +18,12 @@ use Rattle.plate.proofs.Counts.{length-counts, count-place}
 use Rattle.tally.specs.Answers.{TallyAnswer}
 use Rattle.store.specs.World.{World}
 use Rattle.store.specs.Calls.{Outcome, formatOutcome}
-use Rattle.questions.specs.Queries.{tallyOutcome}
+use Rattle.questions.specs.Queries.{searchOutcome, tallyOutcome}
 use Rattle.paper_log.specs.Log.{Lift, Log, begun, openSerial, codes, found, isFull, closeLog, dropLog, roomLog, shedLog, putLog, appendLog}
 use Rattle.paper_log.specs.Calls as Paper
 use Rattle.refinement.specs.Inner.Image.{stateImage, image}
 use Rattle.refinement.specs.Run.{Request, append, close, drop, search, callOf, replies, runAfter, expected, expectedAll, AllTyped, NeverDamage}
-use Rattle.refinement.specs.Rules.{AllKept}
+use Rattle.refinement.specs.Rules.{headerPagesMost, AllKept}
 use Rattle.refinement.specs.ReadBack.{segmentsIn}
 use Rattle.refinement.proofs.Good.{Good}
 use Rattle.refinement.proofs.Begun.{begunHistory, good-begun, format-world}
@@ -30,6 +31,8 @@ use Rattle.refinement.proofs.Reached.{Reached, reached}
 use Rattle.refinement.proofs.AllCalls.{replies-are}
 use Rattle.refinement.proofs.EachCall.{all-kept}
 use Rattle.refinement.proofs.ReadBack.{segments-read}
+use Rattle.refinement.proofs.PagesReached as Pages
+use Rattle.refinement.proofs.PagesReached.{headers-few}
 use Rattle.refinement.proofs.TallyFound.{tally-is}
 use Rattle.refinement.proofs.TallyHeld.{counts-held}
 
@@ -171,6 +174,22 @@ module _ (v : Form) (slots : ℕ) (least : 2 ≤ slots) (most : slots ≤ 4096) 
     pub segments-read-back : segmentsIn at-end slots ≡ log-end .closed
     segments-read-back =
         ap₂ {C = List (List Lift)} segmentsIn (here .world) (sym same-slots) ∙ segments-read (here .history) (here .good) ∙ ap (λ (l : Log). l .closed) (here .log)
+
+    -- a search loads few header pages on its way to the newest closed segment: "at most S/8 rounded up, plus 3"
+    pub header-pages-few : (k t1 t2 : ℕ) (k1 k2 : ℤ) (area : List ℕ)
+        → searchOutcome at-end k t1 t2 k1 k2 area .pages .headers ≤ headerPagesMost slots
+    header-pages-few k t1 t2 k1 k2 area =
+        let same = same-slots in
+        omega (
+          arith,
+          ap (λ (w : World). searchOutcome w k t1 t2 k1 k2 area .pages .headers) (here .world),
+          headers-few (here .history) (here .good) k t1 t2 k1 k2 area,
+        )
+
+    -- and goes through retained closed segments alone: at most two Bloom pages and nine tree pages for each
+    pub pages-few : (k t1 t2 : ℕ) (k1 k2 : ℤ) (area : List ℕ) → (searchOutcome at-end k t1 t2 k1 k2 area .pages .bloom ≤ 2 * length (log-end .closed))
+        × (searchOutcome at-end k t1 t2 k1 k2 area .pages .tree ≤ 9 * length (log-end .closed))
+    pages-few k t1 t2 k1 k2 area = rw (here .world, ← here .log) (Pages.pages-few (here .history) (here .good) k t1 t2 k1 k2 area)
 
     -- a tally counts, by plate, what the paper log's search over all loads finds
     pub tally-counts : (k t1 t2 : ℕ) → tallyOutcome at-end k t1 t2 ≡ record {

@@ -1,9 +1,10 @@
 -- Level 1 from a segment on gives the rows of all wanted lifts up to it, older ones first: each pointer leads to the segment
--- before, and where the last one to be done has been done all older lifts are earlier than t1. By induction on the steps. Assumes nothing.
+-- before, and where the last one to be done has been done all older lifts are earlier than t1. So it goes through retained segments alone. By
+-- induction on the steps. Assumes nothing.
 use mathlib.Core.Path.{_≡_, refl, sym, ap, _∙_}
 use mathlib.Core.Bool.{Bool, true, false, cond, not, _||_}
 use mathlib.Core.Option.{Option, none, some}
-use mathlib.Core.List.{List, [], _∷_, _++_, map, append-assoc, append-nil}
+use mathlib.Core.List.{List, [], _∷_, _++_, map, append-nil}
 use Prim.Native.Nat.{ℕ, zero, suc, _+_, _-_, _*_, _≤_, _<_}
 use native.Mathlib.Omega.{arith}
 use lib.IntN.{ℤ}
@@ -22,13 +23,15 @@ use Rattle.header.specs.declared.Header.{Header}
 use Rattle.header.proofs.HeaderRead.{headerOf}
 use Rattle.segment.proofs.ReadBack.{pages-first}
 use Rattle.visit.specs.declared.Query.{Query}
-use Rattle.visit.specs.Visit.{closedRows}
+use Rattle.visit.specs.declared.Closed.{Closed}
+use Rattle.visit.specs.Visit.{closedRows, treeRead}
 use Rattle.walk.specs.declared.Cursor.{Cursor}
 use Rattle.walk.specs.declared.Step.{Step}
 use Rattle.walk.specs.declared.Step.the-variants.{End, Damage, Pass, Visit}
 use Rattle.walk.specs.Seek.{isLast}
 use Rattle.walk.specs.Advance.{isPassed, cursorAfter, closedOf, advanceOf}
 use Rattle.found.specs.Found.{joinRows, rowsFrom}
+use Rattle.found.specs.Pages.{Read, bloomAt, readFrom}
 use Rattle.questions.specs.Queries.{queryOf}
 use Rattle.paper_log.specs.Log.{Lift, rowOf, codes, among, joined}
 use Rattle.refinement.specs.Inner.Segments as S
@@ -44,7 +47,7 @@ use Rattle.refinement.proofs.Wanted.{map-append, joined-append, among-a
 use Rattle.refinement.proofs.Records.{pages-are}
 use Rattle.refinement.proofs.OneSegment.{closed-rows}
 use Rattle.refinement.proofs.PassedOver.{passed-none}
-use Rattle.refinement.proofs.Pointers.{pointerTo, Leads, dead, to, leads-node, live-retained}
+use Rattle.refinement.proofs.Pointers.{pointerTo, among-first, Leads, dead, to, level-least, last-held, none-held, leads-node, live-retained}
 
 -- where a search may stop, all that is earlier is before its window
 pub last-before : (v : Form) (start t1 : ℕ) → isLast v start t1 ≡ true → start < t1 + Forms.step v
@@ -118,6 +121,19 @@ module _ (h : History) (g : Good h) (before : List (List Lift)) (ls : List Lift)
 
 -- ---- from segment to segment
 
+-- behind the segments b, where a pointer of level 1 leads: nowhere, or to the last of them
+data Next (h : History) (b rest : List (List Lift)) (p : Pointer) : Type 0 where
+  nothing : Skip.isLive p (liveOf (h .log)) ≡ false → b ≡ [] → Next h b rest p
+  one : (before : List (List Lift)) (ls : List Lift) → b ≡ before ++ (ls ∷ []) → h .log .closed ≡ before ++ (ls ∷ rest)
+      → length b ≡ length before + 1 → p ≡ pointerTo h before ls → Next h b rest p
+
+next-of : (h : History) (b rest : List (List Lift)) (p : Pointer) → h .log .closed ≡ b ++ rest → Leads h b 0 p → Next h b rest p
+next-of h b rest p is (dead d z) = nothing d (none-held h b z)
+next-of h b rest p is (to before ls after eq a z q) =
+    let none = last-held h before ls after (rw eq at z) in
+    let whole : b ≡ before ++ (ls ∷ []) = eq ∙ ap (λ (x : List (List Lift)). before ++ (ls ∷ x)) none in
+    one before ls whole (among-first before ls [] rest is whole) (omega (arith, ap length whole, length-append before (ls ∷ []))) q
+
 module _ (h : History) (g : Good h) (t1 t2 : ℕ) (k1 k2 : ℤ) (ok1 : loadOk k1 ≡ true) (ok2 : loadOk k2 ≡ true) where
   abbrev q : Query
   q = queryOf t1 t2 k1 k2
@@ -181,7 +197,8 @@ module _ (h : History) (g : Good h) (t1 t2 : ℕ) (k1 k2 : ℤ) (ok1 : loadOk k1
     unfolding S.closingOf
     onward n f l =
         let a = facts h g before ls after is in
-        f before (ls ∷ after) is l (cursorAfter (h .log .form) head q) refl (leads-node h g before (h .log .oldest + length before) 0)
+        f before (ls ∷ after) is l (cursorAfter (h .log .form) head q) refl
+        (leads-node h g before (h .log .oldest + length before) 0 (level-least (h .log .oldest + length before)))
         (λ e. early-all t1 t2 k1 k2 (a .earlier)
         (omega (arith, start-below ls (a .own) (a .some-lift), last-before (h .log .form) (S.startTime ls) t1 e)))
 
@@ -200,19 +217,65 @@ module _ (h : History) (g : Good h) (t1 t2 : ℕ) (k1 k2 : ℤ) (ok1 : loadOk k1
 
   step : (n : ℕ) → Finds n → Finds (suc n)
   unfolding among joined
-  step n f b rest is l c eb lead last = first-of n c ∙ go (c .last) refl lead
+  step n f b rest is l c eb lead last = first-of n c ∙ go (c .last) refl (next-of h b rest (c .next) is lead)
     where
-      go : (t : Bool) → c .last ≡ t → Leads h b 0 (c .next) → took n (advanced c) ≡ some (map rowOf (wantedIn b))
-      go true e lead = rw (ends c (rw e), last e)
-      go false e (dead d z) = rw (ends c (or-second (c .last) _ (rw d)), z refl)
-      go false e (to before ls after eq z p) =
-          let whole : b ≡ before ++ (ls ∷ []) = eq ∙ ap (λ (x : List (List Lift)). before ++ (ls ∷ x)) (z refl) in
-          let there : h .log .closed ≡ before ++ (ls ∷ rest) =
-          is ∙ ap (λ (x : List (List Lift)). x ++ rest) whole ∙ append-assoc before (ls ∷ []) rest in
-          let m = ap length whole ∙ length-append before (ls ∷ []) in
+      go : (t : Bool) → c .last ≡ t → Next h b rest (c .next) → took n (advanced c) ≡ some (map rowOf (wantedIn b))
+      go true e x = rw (ends c (rw e), last e)
+      go false e (nothing d z) = rw (ends c (or-second (c .last) _ (rw d)), z)
+      go false e (one before ls whole there m p) =
           taken before ls rest there n f (omega arith) c e p (omega arith)
           ∙ ap (λ (x : List Lift). some (map rowOf x)) (sym (parted before ls rest there b whole))
 
   pub level-one : (n : ℕ) → Finds n
   level-one zero = λ b rest is l. absurd (omega arith)
   level-one (suc n) = step n (level-one n)
+
+  -- ---- through no more segments than these
+
+  abbrev reads : ℕ → Cursor → List Read
+  reads n c = readFrom n (nandImage h) (h .log .slots) (liveOf (h .log)) q c
+
+  abbrev pages : Cursor → ℕ → Read
+  pages c tree = record { bloom = bloomAt (nandImage h) (h .log .slots) (liveOf (h .log)) q c; tree = tree }
+
+  abbrev readOf : ℕ → Cursor → Step → List Read
+  readOf n c s =
+      elim s [
+        | End ↦ []
+        | Damage ↦ []
+        | Pass d ↦ pages c 0 ∷ reads n d
+        | Visit s d ↦ pages c (treeRead (nandImage h) s q) ∷ reads n d
+      ]
+
+  read-first : (n : ℕ) (c : Cursor) → reads (suc n) c ≡ readOf n c (advanced c)
+  unfolding readFrom
+  read-first n c = refl
+
+  abbrev Few : ℕ → Type 0
+  Few n = (b rest : List (List Lift)) → h .log .closed ≡ b ++ rest → (c : Cursor) → c .before ≡ h .log .oldest + length b
+      → Leads h b 0 (c .next) → length (reads n c) ≤ length b
+
+  few-step : (n : ℕ) → Few n → Few (suc n)
+  unfolding S.closingOf
+  few-step n f b rest is c eb lead = rw (read-first n c) (go (c .last) refl (next-of h b rest (c .next) is lead))
+    where
+      one-more : (k : ℕ) (s : Closed) (d : Cursor) (t : Bool) → length (reads n d) ≤ k → length b ≡ k + 1
+          → length (readOf n c (cond t (Pass d) (Visit s d))) ≤ length b
+      one-more k s d true l m = omega arith
+      one-more k s d false l m = omega arith
+
+      go : (t : Bool) → c .last ≡ t → Next h b rest (c .next) → length (readOf n c (advanced c)) ≤ length b
+      go true e x = rw (ends c (rw e)) (omega arith)
+      go false e (nothing d z) = rw (ends c (or-second (c .last) _ (rw d))) (omega arith)
+      go false e (one before ls whole there m p) =
+          let d = cursorAfter (h .log .form) (head before ls rest there) q in
+          let behind = f before (ls ∷ rest) there d refl (leads-node h g before (h .log .oldest + length before) 0 (level-least (h .log .oldest + length before))) in
+          rw (goes before ls rest there c e p (omega arith))
+          (one-more (length before) (closedOf (at before ls rest there) (head before ls rest there)) d
+          (isPassed (nandImage h) (at before ls rest there) (head before ls rest there) q) behind m)
+
+  pub level-one-few : (n : ℕ) (b rest : List (List Lift)) → h .log .closed ≡ b ++ rest → (c : Cursor) → c .before ≡ h .log .oldest + length b
+      → Leads h b 0 (c .next) → length (readFrom n (nandImage h) (h .log .slots) (liveOf (h .log)) (queryOf t1 t2 k1 k2) c) ≤ length b
+  unfolding readFrom
+  level-one-few zero b rest is c eb lead = omega arith
+  level-one-few (suc n) b rest is c eb lead = few-step n (level-one-few n) b rest is c eb lead

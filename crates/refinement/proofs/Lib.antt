@@ -25,11 +25,14 @@ pub mod PassedOver
 pub mod ReadBack
 pub mod EachCall
 pub mod Wanted
+pub mod Levels
 pub mod Pointers
+pub mod Late
 pub mod LevelOne
 pub mod SkipWalk
 pub mod SearchFound
 pub mod SearchStep
+pub mod PagesReached
 pub mod TallyFound
 pub mod TallyHeld
 pub mod AllCalls

@@ -57,7 +57,7 @@ module _ (h : History) (g : Good h) (t1 t2 : ℕ) (k1 k2 : ℤ) (ok1 : loadOk k1
       let n = ap length (r .is) ∙ length-append (r .older) (r .skipped) in
       rw (r .good)
       (level-one h g t1 t2 k1 k2 ok1 ok2 (openSerial (h .log) + 1) (r .older) (r .skipped) (r .is) (omega arith)
-      (record { good = true; last = false; next = getD (w .pointers) 0 Skip.none; before = w .before }) (r .before) (r .leads 0)
+      (record { good = true; last = false; next = getD (w .pointers) 0 Skip.none; before = w .before }) (r .before) (r .leads 0 (r .some))
       (λ e. absurd (let z : _≡_ {A = ℕ} 0 1 = cc in omega arith))
       ∙ ap (λ (x : List Lift). some (map rowOf x)) (sym all))
     where

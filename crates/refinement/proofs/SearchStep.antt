@@ -14,8 +14,10 @@ use Rattle.codec.specs.Area.{splice}
 use Rattle.codec.proofs.Truth.{and-parts}
 use Rattle.bounds.specs.Grounds.{queryGround}
 use Rattle.lift.specs.Limits.{timeOk, loadOk}
+use Rattle.found.specs.declared.Pages.{Pages}
 use Rattle.found.specs.Found.{foundRows}
-use Rattle.search.specs.Answers.{searchAnswer, rowBytes}
+use Rattle.found.specs.Pages.{pagesRead}
+use Rattle.search.specs.Answers.{refusedAnswer, searchAnswer, rowBytes}
 use Rattle.store.specs.World.{livenessOf}
 use Rattle.questions.specs.Queries.{logOf, queryOf, searchGround, searchOutcome}
 use Rattle.paper_log.specs.Log.{found, rowOf}
@@ -52,18 +54,26 @@ module _ (h : History) (g : Good h) (k t1 t2 : ℕ) (k1 k2 : ℤ) where
   unfolding searchGround
   ground-is = state-passes h g k (queryGround t1 t2 k1 k2)
 
-  -- what is found where no ground of its own holds
-  pub found-if : windowGround h k t1 t2 k1 k2 ≡ 0
-      → foundRows (image h .nand) (image h .nor) (image h .state .page) (logOf (image h .state) k) (livenessOf (image h)) (queryOf t1 t2 k1 k2)
-      ≡ some (map rowOf (found (h .log) t1 t2 k1 k2))
+  -- no ground of its own holds
+  pub record Passes : Type 0 where
+    pub same : k ≡ h .log .slots
+    pub low : loadOk k1 ≡ true
+    pub high : loadOk k2 ≡ true
+
+  pub window-passes : windowGround h k t1 t2 k1 k2 ≡ 0 → Passes
   unfolding queryGround
-  found-if e =
+  window-passes e =
       let a = first-zero 0 (not (eqb k (h .log .slots))) _ e in
       let b = first-zero 3 (not (timeOk t1 && timeOk t2)) _ (a .1) in
       let c = first-zero 4 (not (loadOk k1 && loadOk k2)) _ (b .1) in
       let ok = and-parts (loadOk k1) (loadOk k2) (passed _ (c .0)) in
-      let s : k ≡ h .log .slots = eqb-true k (h .log .slots) (passed _ (a .0)) in
-      rw s (search-found h g t1 t2 k1 k2 (ok .0) (ok .1))
+      record { same = eqb-true k (h .log .slots) (passed _ (a .0)); low = ok .0; high = ok .1 }
+
+  -- what is found then
+  pub found-if : windowGround h k t1 t2 k1 k2 ≡ 0
+      → foundRows (image h .nand) (image h .nor) (image h .state .page) (logOf (image h .state) k) (livenessOf (image h)) (queryOf t1 t2 k1 k2)
+      ≡ some (map rowOf (found (h .log) t1 t2 k1 k2))
+  found-if e = let p = window-passes e in rw (p .same) (search-found h g t1 t2 k1 k2 (p .low) (p .high))
 
   module _ (area : List ℕ) where
     abbrev rows : List (List ℕ)
@@ -90,12 +100,12 @@ module _ (h : History) (g : Good h) (k t1 t2 : ℕ) (k1 k2 : ℤ) where
         (ltb t2 t1 || ltZ k2 k1)
         (Paper.ground 12 isFull 0)
 
-    answer-is : searched (searchAnswer area (some rows)) ≡ replyOf (Paper.ground 12 isFull 0)
+    answer-is : (pages : Pages) → searched (searchAnswer area pages (some rows)) ≡ replyOf (Paper.ground 12 isFull 0)
     unfolding searchAnswer
-    answer-is = rw (length-map (found (h .log) t1 t2 k1 k2) rowOf) (go isFull)
+    answer-is pages = rw (length-map (found (h .log) t1 t2 k1 k2) rowOf) (go isFull)
       where
-        go : (t : Bool) → searched (cond t (record { number = 12; count = 0; area = area })
-            (record { number = 0; count = length (found (h .log) t1 t2 k1 k2); area = splice area 0 (rowBytes rows) }))
+        go : (t : Bool) → searched (cond t (refusedAnswer 12 area)
+            (record { number = 0; count = length (found (h .log) t1 t2 k1 k2); pages = pages; area = splice area 0 (rowBytes rows) }))
             ≡ replyOf (Paper.ground 12 t 0)
         go true = refl
         go false = refl
@@ -110,10 +120,13 @@ module _ (h : History) (g : Good h) (k t1 t2 : ℕ) (k1 k2 : ℤ) where
     unfolding searchOutcome
     search-step = rw ground-is (go (eqb window 0) refl ∙ ap replyOf (sym number-is))
       where
+        pages : Pages
+        pages = pagesRead (image h .nand) (logOf (image h .state) k) (livenessOf (image h)) (queryOf t1 t2 k1 k2)
+
         go : (t : Bool) → eqb window 0 ≡ t
-            → searched (cond t (searchAnswer area
+            → searched (cond t (searchAnswer area pages
             (foundRows (image h .nand) (image h .nor) (image h .state .page) (logOf (image h .state) k) (livenessOf (image h)) (queryOf t1 t2 k1 k2)))
-            (record { number = window; count = 0; area = area }))
+            (refusedAnswer window area))
             ≡ replyOf (cond t (Paper.ground 12 isFull 0) window)
-        go true e = rw (found-if (eqb-true window 0 e)) answer-is
+        go true e = rw (found-if (eqb-true window 0 e)) (answer-is pages)
         go false e = rw e

@@ -1,11 +1,11 @@
 -- What a call may do to the chips (README, demand 3): a page of NAND that changes was erased before, or lies in the slot of a serial that goes
 -- in this call ("the slot of a serial that goes is erased in that call, no other"); NOR only turns ones to zeros ("between erasures a write may
--- only clear bits"), unless the call closed a segment. Assumes nothing.
+-- only clear bits"), unless the call closed a segment. And how many header pages a search may load (document 02, W-207). Assumes nothing.
 use mathlib.Core.Path.{_≡_}
 use mathlib.Core.Bool.{true}
 use mathlib.Core.List.{List, [], _∷_}
 use mathlib.Core.Logic.{_⊎_}
-use Prim.Native.Nat.{ℕ, _+_, _<_}
+use Prim.Native.Nat.{ℕ, _+_, _/_, _<_}
 use Rattle.flash.specs.Chip.{slotOf, pageOf, pageErased, slotPages}
 use Rattle.flash.specs.Clears.{OnlyClears}
 use Rattle.store.specs.World.{World}
@@ -31,3 +31,7 @@ pub record Kept (before after : World) (log next : Log) : Type 0 where
 abbrev pub AllKept : World → Log → List Request → Type 0
 AllKept w g [] = Unit {0}
 AllKept w g (r ∷ rs) = Kept w (worldAfter w r) g (Paper.stepped g (callOf r)) × AllKept (worldAfter w r) (Paper.stepped g (callOf r)) rs
+
+-- header pages of a search: "It is at most S/8 rounded up, plus 3, in any store reached from a format."
+abbrev pub headerPagesMost : ℕ → ℕ
+headerPagesMost slots = (slots + 7) / 8 + 3

@@ -4,9 +4,11 @@ use mathlib.Core.Path.{_≡_, sym, ap, ap₂, subst, _∙_}
 use mathlib.Core.Bool.{Bool, true, false, cond}
 use mathlib.Core.List.{List, [], _∷_, map}
 use mathlib.Core.Logic.{_⊎_, inl, inr}
-use Prim.Native.Nat.{ℕ, _≤_}
+use Prim.Native.Nat.{ℕ, _*_, _≤_}
+use native.Mathlib.Omega.{arith}
 use lib.Dec.{eqb}
 use lib.IntN.{ℤ}
+use lib.ListN.{length}
 use Rattle.form.specs.declared.Form.{Form}
 use Rattle.form.specs.declared.Form.the-variants.{Old, New}
 use Rattle.plate.specs.Plate.{noCounts, countsOf}
@@ -18,12 +20,14 @@ use Rattle.questions.specs.Queries.{searchOutcome, tallyOutcome}
 use Rattle.paper_log.specs.Log.{Lift, Log, begun, openSerial, codes, retained}
 use Rattle.paper_log.specs.Calls as Paper
 use Rattle.refinement.specs.Inner.Image.{History, stateImage, image}
-use Rattle.refinement.specs.Run.{Request, callOf, replies, runAfter, expectedAll, AllTyped, NeverDamage}
-use Rattle.refinement.specs.Rules.{AllKept}
+use Rattle.refinement.specs.Run.{Request, callOf, searched, replies, runAfter, expectedAll, AllTyped, NeverDamage}
+use Rattle.refinement.specs.Rules.{headerPagesMost, AllKept}
 use Rattle.refinement.specs.ReadBack.{segmentsIn}
 use Rattle.refinement.proofs.AllCalls.{replies-are}
 use Rattle.refinement.proofs.EachCall.{all-kept}
 use Rattle.refinement.proofs.ReadBack.{segments-read}
+use Rattle.refinement.proofs.PagesReached as Pages
+use Rattle.refinement.proofs.PagesReached.{headers-few}
 use Rattle.refinement.proofs.TallyFound.{tally-is}
 use Rattle.refinement.proofs.Demands.{fair-all, log-stays}
 use Rattle.carry.specs.Carried.{other, firstTime}
@@ -85,11 +89,11 @@ module _ (slots : ℕ) (least : 2 ≤ slots) (most : slots ≤ 4096) {w : World}
   module _ (f : Form) (e : w .form ≡ other f) (nand nor : List ℕ) (chips : Chips slots nand nor) (q : carryOutcome f w slots nand nor .number ≡ 0) where
     -- "For such stores searches before and after agree in number, count and rows", both ways, and so do tallies
     pub searches-agree : (s t1 t2 : ℕ) (k1 k2 : ℤ) (area : List ℕ)
-        → searchOutcome (carryOutcome f w slots nand nor .world) s t1 t2 k1 k2 area ≡ searchOutcome w s t1 t2 k1 k2 area
+        → searched (searchOutcome (carryOutcome f w slots nand nor .world) s t1 t2 k1 k2 area) ≡ searched (searchOutcome w s t1 t2 k1 k2 area)
     searches-agree s t1 t2 k1 k2 area =
-        ap (λ (o : Outcome). searchOutcome (o .world) s t1 t2 k1 k2 area) (carried-is k f e nand nor chips q)
+        ap (λ (o : Outcome). searched (searchOutcome (o .world) s t1 t2 k1 k2 area)) (carried-is k f e nand nor chips q)
         ∙ answers-agree f h (k .good) (good-there k f e nand nor chips q) s t1 t2 k1 k2 area
-        ∙ ap (λ (x : World). searchOutcome x s t1 t2 k1 k2 area) (sym (k .world))
+        ∙ ap (λ (x : World). searched (searchOutcome x s t1 t2 k1 k2 area)) (sym (k .world))
 
     pub tallies-agree : (s t1 t2 : ℕ) → tallyOutcome (carryOutcome f w slots nand nor .world) s t1 t2 ≡ tallyOutcome w s t1 t2
     tallies-agree s t1 t2 =
@@ -115,6 +119,26 @@ module _ (slots : ℕ) (least : 2 ≤ slots) (most : slots ≤ 4096) {w : World}
   pub segments-read-back : segmentsIn w slots ≡ g .closed
   segments-read-back =
       ap₂ {C = List (List Lift)} segmentsIn (k .world) (sym (k .same-slots)) ∙ segments-read h (k .good) ∙ ap (λ (l : Log). l .closed) (k .log)
+
+  -- a search loads few header pages on its way to the newest closed segment
+  pub header-pages-few : (s t1 t2 : ℕ) (k1 k2 : ℤ) (area : List ℕ) → searchOutcome w s t1 t2 k1 k2 area .pages .headers ≤ headerPagesMost slots
+  header-pages-few s t1 t2 k1 k2 area =
+      let same = k .same-slots in
+      omega (
+        arith,
+        ap (λ (x : World). searchOutcome x s t1 t2 k1 k2 area .pages .headers) (k .world),
+        headers-few h (k .good) s t1 t2 k1 k2 area,
+      )
+
+  -- and Bloom and tree pages of retained closed segments alone
+  pub pages-few : (s t1 t2 : ℕ) (k1 k2 : ℤ) (area : List ℕ) → (searchOutcome w s t1 t2 k1 k2 area .pages .bloom ≤ 2 * length (g .closed))
+      × (searchOutcome w s t1 t2 k1 k2 area .pages .tree ≤ 9 * length (g .closed))
+  pages-few s t1 t2 k1 k2 area =
+      let m = Pages.pages-few h (k .good) s t1 t2 k1 k2 area in
+      let n = ap (λ (l : Log). length (l .closed)) (k .log) in (
+        omega (arith, ap (λ (x : World). searchOutcome x s t1 t2 k1 k2 area .pages .bloom) (k .world), m .0),
+        omega (arith, ap (λ (x : World). searchOutcome x s t1 t2 k1 k2 area .pages .tree) (k .world), m .1),
+      )
 
   -- the state's serials are the paper log's
   pub serials-kept : (w .state .oldest ≡ g .oldest) × (w .state .current ≡ openSerial g)

@@ -14,12 +14,13 @@ use Rattle.visit.specs.Visit.{openRows}
 use Rattle.walk.specs.declared.Cursor.{Cursor}
 use Rattle.walk.specs.Inner.Sound.{Begun}
 use Rattle.found.specs.declared.Counted.{Counted}
+use Rattle.found.specs.declared.Pages.{Pages}
 use Rattle.found.specs.Found.{joinRows}
 use Rattle.found.specs.Inner.Turns.{allRows, rowsAfter, rowsIn, countOf}
 use Rattle.found.proofs.All.{count-good, all-none, all-is}
 use Rattle.found.proofs.Counts.{never}
 use Rattle.found.proofs.Segments.{rows-wide}
-use Rattle.search.specs.Answers.{SearchAnswer, searchAnswer}
+use Rattle.search.specs.Answers.{SearchAnswer, refusedAnswer, searchAnswer}
 use Rattle.search.specs.Inner.Turns.{writtenIn, WrittenUpTo, CountIs}
 use Rattle.search.proofs.Written.{newer-fit, older-left, older-before}
 
@@ -57,35 +58,42 @@ module _ (nand nor page : List ℕ) (g : Log) (live : Live) (q : Query) (c : Cur
 
 -- ---- the answer
 
-abbrev answer : ℕ → ℕ → List ℕ → SearchAnswer
-answer number count area = record { number = number; count = count; area = area }
+abbrev answer : ℕ → ℕ → Pages → List ℕ → SearchAnswer
+answer number count pages area = record { number = number; count = count; pages = pages; area = area }
 
-module _ (area : List ℕ) (o : Option (List (List ℕ))) (n : Counted) (is : n ≡ countOf 0 o) where
+module _ (area : List ℕ) (pages : Pages) (o : Option (List (List ℕ))) (n : Counted) (is : n ≡ countOf 0 pages o) where
   pub counted-is : n .good ≡ true → CountIs (n .total) o
   counted-is e = go o is
     where
-      go : (o : Option (List (List ℕ))) → n ≡ countOf 0 o → CountIs (n .total) o
+      go : (o : Option (List (List ℕ))) → n ≡ countOf 0 pages o → CountIs (n .total) o
       go none f = never (sym e ∙ ap (λ (x : Counted). x .good) f)
       go (some rows) f = ap (λ (x : Counted). x .total) f ∙ omega arith
 
-  pub answer-damage : n .good ≡ false → answer 10 0 area ≡ searchAnswer area o
+  pages-are : n .good ≡ true → n .pages ≡ pages
+  pages-are e = go o is
+    where
+      go : (o : Option (List (List ℕ))) → n ≡ countOf 0 pages o → n .pages ≡ pages
+      go none f = never (sym e ∙ ap (λ (x : Counted). x .good) f)
+      go (some rows) f = ap (λ (x : Counted). x .pages) f
+
+  pub answer-damage : n .good ≡ false → refusedAnswer 10 area ≡ searchAnswer area pages o
   unfolding searchAnswer
-  answer-damage e = rw (count-good n o is e)
+  answer-damage e = rw (count-good n pages o is e)
 
   module _ (good : n .good ≡ true) (rows : ℕ) (rows-is : rows ≡ length area / 32) where
-    pub answer-small : rows < n .total → answer 12 0 area ≡ searchAnswer area o
+    pub answer-small : rows < n .total → refusedAnswer 12 area ≡ searchAnswer area pages o
     unfolding searchAnswer
     answer-small h = go o (counted-is good)
       where
-        go : (o : Option (List (List ℕ))) → CountIs (n .total) o → answer 12 0 area ≡ searchAnswer area o
+        go : (o : Option (List (List ℕ))) → CountIs (n .total) o → refusedAnswer 12 area ≡ searchAnswer area pages o
         go none k = absurd k
         go (some rs) k = let t = lt-ltb (length area / 32) (length rs) (omega arith) in rw t
 
-    pub answer-found : n .total ≤ rows → (new : List ℕ) → new ≡ writtenIn area o → answer 0 (n .total) new ≡ searchAnswer area o
+    pub answer-found : n .total ≤ rows → (new : List ℕ) → new ≡ writtenIn area o → answer 0 (n .total) (n .pages) new ≡ searchAnswer area pages o
     unfolding searchAnswer
     answer-found h new e = go o (counted-is good) e
       where
         go : (o : Option (List (List ℕ))) → CountIs (n .total) o → new ≡ writtenIn area o
-            → answer 0 (n .total) new ≡ searchAnswer area o
+            → answer 0 (n .total) (n .pages) new ≡ searchAnswer area pages o
         go none k e = absurd k
-        go (some rs) k e = let t = le-ltb (length area / 32) (length rs) (omega arith) in rw (t, k, e)
+        go (some rs) k e = let t = le-ltb (length area / 32) (length rs) (omega arith) in rw (t, k, e, pages-are good)

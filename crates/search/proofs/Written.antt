@@ -31,7 +31,8 @@ use Rattle.found.proofs.Counts.{never}
 use Rattle.found.proofs.Matched.{WideIn, record-size, closed-wide}
 use Rattle.found.proofs.Wide.{Wide}
 use Rattle.found.proofs.Placed.{Placed}
-use Rattle.found.proofs.Segments.{rows-end, rows-damage, pass-facts, rows-pass, visit-facts, rows-visit, rows-wide}
+use Rattle.found.proofs.Falling.{pass-facts, visit-facts}
+use Rattle.found.proofs.Segments.{rows-end, rows-damage, rows-pass, rows-visit, rows-wide}
 use Rattle.search.specs.declared.Writing.{Writing}
 use Rattle.search.specs.Answers.{rowBytes}
 use Rattle.search.specs.Inner.Turns.{writtenIn, WrittenUpTo, CountIs, writeLeft, WritesOn}

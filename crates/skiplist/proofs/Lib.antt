@@ -1,3 +1,4 @@
 pub mod Paint
 pub mod Pointers
 pub mod Nodes
+pub mod Levels

@@ -1,7 +1,7 @@
 -- What a call over areas leaves, from what the store's call gave and whether its areas have their lengths. Assumes nothing.
 use mathlib.Core.Path.{_≡_, sym, ap, ap₂}
 use mathlib.Core.Bool.{Bool, true, false, cond, _&&_}
-use mathlib.Core.List.{List, []}
+use mathlib.Core.List.{List, [], _∷_}
 use Prim.Native.Nat.{ℕ}
 use native.Mathlib.Omega.{arith}
 use lib.Dec.{eqb}
@@ -10,12 +10,14 @@ use borrow.Author.Tests.{eq-eqb, ne-eqb}
 use Rattle.codec.specs.Number.{bytes}
 use Rattle.codec.proofs.Areas.{length-part}
 use Rattle.plate.specs.declared.Lookup.{Lookup}
+use Rattle.found.specs.declared.Pages.{Pages}
 use Rattle.search.specs.Answers.{SearchAnswer}
 use Rattle.tally.specs.Answers.{TallyAnswer}
 use Rattle.store.specs.declared.State.{State}
 use Rattle.store.specs.World.{World, world}
 use Rattle.store.specs.Calls as Calls
 use Rattle.store.specs.Calls.{Outcome}
+use Rattle.loads.specs.Signed.{sideBySide}
 use Rattle.state_bytes.specs.StateBytes.{stateBytes, stateAs, stateIn}
 use Rattle.kept.specs.Kept.{kept}
 use Rattle.store_abi.specs.Areas.{left, leaves, newBytes, called, Answered, replied, repliedIn}
@@ -82,10 +84,14 @@ module _ (area answer : List ℕ) (n : ℕ) (rows : List ℕ) (a : Answered) whe
   pub both-right : length area ≡ 783 → length answer ≡ n → a ≡ repliedIn area answer n rows a
   both-right e h = by true (both-equal (length area) 783 (length answer) n e h)
 
-pub search-left : (o : SearchAnswer) (n c : ℕ) (rows answer answer' : List ℕ)
-    → _≡_ {A = SearchAnswer} (record { number = n; count = c; area = rows }) o → answer' ≡ kept n (bytes 8 c) answer
-    → replied n rows answer' ≡ replied (o .number) (o .area) (kept (o .number) (bytes 8 (o .count)) answer)
-search-left o n c rows answer answer' e f = rw (f, ← e)
+-- a search's count and pages, side by side
+abbrev pub searchNumbers : ℕ → Pages → List ℕ
+searchNumbers count pages = sideBySide (bytes 8) (count ∷ pages .headers ∷ pages .bloom ∷ pages .tree ∷ [])
+
+pub search-left : (o : SearchAnswer) (n c : ℕ) (p : Pages) (rows answer answer' : List ℕ)
+    → _≡_ {A = SearchAnswer} (record { number = n; count = c; pages = p; area = rows }) o → answer' ≡ kept n (searchNumbers c p) answer
+    → replied n rows answer' ≡ replied (o .number) (o .area) (kept (o .number) (searchNumbers (o .count) (o .pages)) answer)
+search-left o n c p rows answer answer' e f = rw (f, ← e)
 
 -- a tally's counts, laid out in this way
 pub tally-left : (laid : List ℕ → List ℕ) (o : TallyAnswer) (n : ℕ) (counts answer answer' : List ℕ)

@@ -2,7 +2,7 @@
 -- next state there, and its other answers in an area of 8-byte numbers, or of a page; a refusal leaves every area as it was. A conversion
 -- reads one store and its state and writes a second one. Assumes nothing.
 use mathlib.Core.Bool.{Bool, cond, _&&_}
-use mathlib.Core.List.{List, []}
+use mathlib.Core.List.{List, [], _∷_}
 use Prim.Native.Nat.{ℕ, _*_}
 use lib.Dec.{eqb}
 use lib.IntN.{ℤ}
@@ -90,11 +90,12 @@ replied number rows answer = record { number = number; rows = rows; answer = ans
 unfoldable pub repliedIn : List ℕ → List ℕ → ℕ → List ℕ → Answered → Answered
 repliedIn area answer n rows a = cond (eqb (length area) (areaLength New) && eqb (length answer) n) a (replied 20 rows answer)
 
--- the count in 8 bytes
+-- the count, then the header, Bloom and tree pages read, in 8 bytes each
 unfoldable pub searchCalled : List ℕ → List ℕ → List ℕ → ℕ → ℕ → ℕ → ℤ → ℤ → List ℕ → List ℕ → Answered
 searchCalled area nand nor slots t1 t2 k1 k2 rows answer =
     let o = searchOutcome (world nand nor (stateIn area)) slots t1 t2 k1 k2 rows in
-    repliedIn area answer 8 rows (replied (o .number) (o .area) (kept (o .number) (bytes 8 (o .count)) answer))
+    let numbers = o .count ∷ o .pages .headers ∷ o .pages .bloom ∷ o .pages .tree ∷ [] in
+    repliedIn area answer 32 rows (replied (o .number) (o .area) (kept (o .number) (sideBySide (bytes 8) numbers) answer))
 
 -- 22 counts of 8 bytes
 unfoldable pub tallyCalled : List ℕ → List ℕ → List ℕ → ℕ → ℕ → ℕ → List ℕ → Answered

@@ -3,6 +3,7 @@
 // everything else.
 use grow::Plan;
 use kept::NUMBER_BYTES;
+use kept::SEARCH_BYTES;
 use lift::NOTE_BYTES;
 use plate::PLATES;
 use service_page::PAGE_BYTES;
@@ -209,14 +210,15 @@ pub extern "C" fn store_search(
     if state.len() != state_bytes::STATE_BYTES {
         return AREA_LENGTH;
     }
-    if answer.len() != NUMBER_BYTES {
+    if answer.len() != SEARCH_BYTES {
         return AREA_LENGTH;
     }
     let n = area_reads::ground(state, nand.len(), nor.len(), slots);
     let page = area_reads::page_of(state);
     let g = area_reads::log_at(state, slots);
     let f = questions::pieces::search_from(n, page, g, nand, nor, t1, t2, k1, k2, rows);
-    kept::keep_number(answer, f.number, f.count);
+    let p = f.pages;
+    kept::keep_search(answer, f.number, f.count, p.headers, p.bloom, p.tree);
     f.number
 }
 

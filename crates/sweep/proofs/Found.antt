@@ -1,6 +1,6 @@
 -- What a sweep hands back, as places: for any bytes every position found is a lift's, so the set holds exactly what the rules'
 -- sweep finds; for a built tree these are the positions whose loads are in the range. Assumes nothing.
-use Prim.Native.Nat.{ℕ, zero, suc, _≤_, _<_}
+use Prim.Native.Nat.{ℕ, _≤_, _<_}
 use mathlib.Core.Path.{_≡_, refl, ap, _∙_}
 use mathlib.Core.Bool.{Bool, true, false, cond, _&&_, _||_}
 use mathlib.Core.Option.{Option, none, some}
@@ -17,10 +17,10 @@ use Rattle.bitset.proofs.Picked.{picked-same}
 use Rattle.tree.specs.Rules.{Entry, Bucket, treeOf}
 use Rattle.tree.specs.Inner.Loads.{Loads}
 use Rattle.tree.specs.Bytes.{treeBytes}
-use Rattle.tree.specs.Reading.{kidsOf, nodeGood, positionsGood}
-use Rattle.tree.specs.Search.{within, hits, reached}
+use Rattle.tree.specs.Reading.{nodeGood, positionsGood}
+use Rattle.tree.specs.Search.{within, hits}
 use Rattle.tree.specs.Inner.Find.{find}
-use Rattle.tree.specs.Sweep.{recordsGood, andThen, nodeAt, visitGood, sweepFrom, sweepOn}
+use Rattle.tree.specs.Sweep.{recordsGood, andThen, nodeAt, visitedOn, visitGood, gathered, sweepOn}
 use Rattle.tree.proofs.Descent.{if, none-some}
 use Rattle.tree.proofs.Looked.{sound}
 use Rattle.tree.proofs.Found.{find-elem}
@@ -59,28 +59,24 @@ then-below n hs none ps e h k = none-some e
 then-below n hs (some qs) ps e h k = let d : hs ++ qs ≡ ps = cc in rw (← d) (below-append n hs qs h (k qs refl))
 
 module _ (area : List ℕ) (buckets count : ℕ) (codes : ℕ → ℕ) (k1 k2 : ℕ) where
-  visited-below : (b : ℕ) → visitGood area buckets count codes k1 k2 b ≡ true
-      → Below count (hits k1 k2 (nodeAt area buckets count codes k1 k2 b .entries))
+  visited-below : (b : ℕ) → visitGood area buckets count codes k1 k2 b ≡ true → Below count (hits k1 k2 (nodeAt area b .entries))
   visited-below b g =
-      let n = nodeAt area buckets count codes k1 k2 b in
+      let n = nodeAt area b in
       hits-below k1 k2 count (n .entries)
       (sound n b buckets count (and-parts (nodeGood n b buckets count) (recordsGood codes k1 k2 (n .entries)) g .0) .positions)
 
-  from-below : (n b : ℕ) (r : ℕ → Bool) (ps : List ℕ) → sweepFrom area buckets count codes k1 k2 n b r ≡ some ps → Below count ps
-  unfolding sweepFrom
-  from-below zero b r ps e = let d : [] ≡ ps = cc in rw (← d) tt
-  from-below (suc n) b r ps e =
-      if (r b)
-      (λ f. if (visitGood area buckets count codes k1 k2 b)
-      (λ g. then-below count _ _ ps (rw (f, g) at e) (visited-below b g) (λ qs.
-      from-below n (suc b) (reached k1 k2 (kidsOf (nodeAt area buckets count codes k1 k2 b)) r) qs))
-      (λ g. none-some (rw (f, g) at e)))
-      (λ f. then-below count [] _ ps (rw f at e) tt (λ qs. from-below n (suc b) r qs))
+  gathered-below : (bs ps : List ℕ) → gathered area buckets count codes k1 k2 bs ≡ some ps → Below count ps
+  unfolding gathered
+  gathered-below [] ps e = let d : [] ≡ ps = cc in rw (← d) tt
+  gathered-below (b ∷ bs) ps e =
+      if (visitGood area buckets count codes k1 k2 b)
+      (λ g. then-below count _ _ ps (rw g at e) (visited-below b g) (λ qs. gathered-below bs qs))
+      (λ g. none-some (rw g at e))
 
   -- for any bytes: what is found are positions of lifts
   pub sweep-below : (ps : List ℕ) → sweepOn area buckets count codes k1 k2 ≡ some ps → Below count ps
   unfolding sweepOn
-  sweep-below ps e = from-below buckets 0 (λ j. eqb j 0) ps e
+  sweep-below ps e = gathered-below (visitedOn area buckets k1 k2) ps e
 
 -- ---- the set that is handed back
 

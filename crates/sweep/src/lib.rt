@@ -4,18 +4,22 @@ use tree::Bucket;
 ghost use mathlib.Core.Path.{_≡_};
 ghost use mathlib.Core.Bool.{true};
 ghost use mathlib.Core.Option.{some};
-ghost use mathlib.Core.List.{[]};
+ghost use mathlib.Core.List.{[], map};
 ghost use Prim.Native.Nat.{ℕ, _+_, _≤_, _<_};
-ghost use lib.Count.{trailingZeros};
+ghost use lib.Count.{trailingZeros, ones};
 ghost use lib.ListN.{length};
 ghost use Rattle.lift.specs.Record.{recordWidth, timeAt, codeAt};
 ghost use Rattle.tree.specs.Rules.{entriesMost};
+ghost use Rattle.bitset.specs.Set.{distinct};
 ghost use Rattle.tree.specs.Bytes.{noMid};
+ghost use Rattle.tree.specs.Place.{bucketPage};
 ghost use Rattle.tree.specs.Reading.{entryIn, entriesFrom, childAt, kidsOf, positionsGood};
 ghost use Rattle.tree.specs.Search.{within, reachedWith, reached};
+ghost use Rattle.tree.specs.Sweep.{visitedOn};
 ghost use Rattle.tree.specs.Inner.Seen.{headOf};
 ghost use Rattle.sweep.specs.Inner.Swept.{sweptOf, Recorded, Held};
 ghost use Rattle.sweep.specs.Inner.Turns.{isDue, HasBit, DueBelow, DueAbove, codesOf, timesOf, withRecord, withEntry, withEntries, leadsTo, onward};
+ghost use Rattle.sweep.specs.Inner.Turns.{readOnward};
 
 // Times from t1 to t2, stored loads from k1 to k2.
 pub struct Range {
@@ -38,11 +42,18 @@ pub struct Sweep {
     pub set: Bits,
 }
 
-// A sweep on its way: the mask of the buckets that are reached and not yet visited, and the positions found so far.
+// What a sweep found, and the mask of the pages that hold a bucket visited: bit p for page p.
+pub struct Swept {
+    pub found: Sweep,
+    pub read: u64,
+}
+
+// A sweep on its way: the mask of the buckets that are reached and not yet visited, the positions found and the pages read so far.
 struct Turn {
     good: bool,
     due: u64,
     set: Bits,
+    read: u64,
 }
 
 // The mask with a child, where it is taken and there is one.
@@ -149,9 +160,10 @@ fn entries(
 fn visit(tree: &[u8], lifts: &[u8], tail: &[u8], g: Records, r: Range, t: Turn) -> Turn
     requires { ⌜ Held (now tree) (now lifts) (now tail) g ⌝ }
     requires { ⌜ (t .good ≡ true) × (0 < t .due) × DueBelow (g .buckets) (t .due) ⌝ }
-    ensures leads { λ q. ⌜ onward (now (tree .entry)) (now (lifts .entry)) (now (tail .entry)) g r (g .buckets) 0 q
-        ≡ onward (now (tree .entry)) (now (lifts .entry)) (now (tail .entry)) g r (g .buckets) 0 t ⌝ }
+    ensures leads { λ q. ⌜ onward (now (tree .entry)) (now (lifts .entry)) (now (tail .entry)) g r q
+        ≡ onward (now (tree .entry)) (now (lifts .entry)) (now (tail .entry)) g r t ⌝ }
     ensures left { λ q. ⌜ DueBelow (g .buckets) (q .due) × DueAbove (trailingZeros 64 (t .due)) (q .due) ⌝ }
+    ensures pages { λ q. ⌜ (q .good ≡ true → (j : ℕ) → readOnward (now (tree .entry)) g r q j ≡ readOnward (now (tree .entry)) g r t j) ⌝ }
 {
     let due = t.due;
     let set = t.set;
@@ -159,12 +171,14 @@ fn visit(tree: &[u8], lifts: &[u8], tail: &[u8], g: Records, r: Range, t: Turn) 
     let rest = bitset::without_lowest(due);
     let bucket = tree::bucket_of(tree, Bucket(b));
     let n = tree::node_in(bucket, Bucket(b), g.buckets, g.count);
+    let read = t.read | bitset::power(tree::page_of(Bucket(b)));
     let good = n.good;
     if !good {
         return Turn {
             good: false,
             due: rest,
             set,
+            read,
         };
     }
     let more = with_kids(rest, n.mid, n.left, n.right, r);
@@ -174,6 +188,7 @@ fn visit(tree: &[u8], lifts: &[u8], tail: &[u8], g: Records, r: Range, t: Turn) 
         good: found.good,
         due: more,
         set: all,
+        read,
     }
 }
 
@@ -194,26 +209,36 @@ fn ended(t: Turn) -> Sweep
 }
 
 // The positions of the segment's lifts whose loads and times are in the range, by its tree; each load is compared with its record's.
-pub fn sweep_tree(tree: &[u8], lifts: &[u8], tail: &[u8], g: Records, r: Range) -> Sweep
+pub fn sweep_tree(tree: &[u8], lifts: &[u8], tail: &[u8], g: Records, r: Range) -> Swept
     requires { ⌜ Held (now tree) (now lifts) (now tail) g ⌝ }
-    ensures { λ q. ⌜ q ≡ sweptOf (now (tree .entry)) (now (lifts .entry)) (now (tail .entry)) g r ⌝ }
+    ensures found { λ q. ⌜ q .found ≡ sweptOf (now (tree .entry)) (now (lifts .entry)) (now (tail .entry)) g r ⌝ }
+    ensures pages { λ q. ⌜ (q .found .good ≡ true
+        → ones (q .read) ≡ distinct (map bucketPage (visitedOn (now (tree .entry)) (g .buckets) (r .k1) (r .k2)))) ⌝ }
 {
     let none = Bits::empty();
     if g.buckets == 0 {
-        return Sweep {
-            good: true,
-            set: none,
+        return Swept {
+            found: Sweep {
+                good: true,
+                set: none,
+            },
+            read: 0,
         };
     }
     let mut t = Turn {
         good: true,
         due: 1,
         set: none,
+        read: 0,
     };
     loop {
         let go = t.good & (0 < t.due);
         if !go {
-            return ended(t);
+            let found = ended(t);
+            return Swept {
+                found,
+                read: t.read,
+            };
         }
         t = visit(tree, lifts, tail, g, r, t);
     }

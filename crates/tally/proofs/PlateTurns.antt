@@ -27,7 +27,8 @@ use Rattle.tally.specs.Inner.Turns.{countedAll, tallyOf, NoneAbove, tall
 use Rattle.found.proofs.All.{all-none, all-is}
 use Rattle.found.proofs.Counts.{never}
 use Rattle.found.proofs.Matched.{closed-few, open-few}
-use Rattle.found.proofs.Segments.{rows-end, rows-damage, pass-facts, rows-pass, visit-facts, rows-visit}
+use Rattle.found.proofs.Falling.{pass-facts, visit-facts}
+use Rattle.found.proofs.Segments.{rows-end, rows-damage, rows-pass, rows-visit}
 use Rattle.tally.proofs.Tallies.{none-zero, counted-none, tally-join, tally-few}
 
 abbrev plates : Bool → List ℕ → Plates

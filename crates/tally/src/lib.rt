@@ -53,7 +53,8 @@ pub fn tally_in(nand: &[u8], nor: &[u8], page: &[u8], g: Log, q: Query) -> Tally
     ensures { λ r. ⌜ _≡_ {A = TallyAnswer} (record { number = r .number; counts = r .counts })
         (tallyAnswer (foundRows (now (nand .entry)) (now (nor .entry)) (now (page .entry)) g (serialsFrom (g .oldest)) q)) ⌝ }
 {
-    let c = walk::start_of(nand, g, q);
+    let start = walk::start_of(nand, g, q);
+    let c = start.at;
     let n = by_plate::tally_open(nand, nor, page, g, q);
     let good = c.good & n.good;
     if !good {

@@ -13,7 +13,7 @@ use Rattle.tree.specs.Search.{hits}
 use Rattle.tree.specs.Place.{bucketStart}
 use Rattle.tree.specs.Bytes.{places, entryBytes, bucketBytes, treeBytes}
 use Rattle.tree.specs.Reading.{bucketAt, entriesFrom, nodeIn, kidsOf, positionsGood, nodeGood}
-use Rattle.tree.specs.Sweep.{recordsGood, sweepFrom, sweepOn}
+use Rattle.tree.specs.Sweep.{recordsGood, visitedFrom, gathered, sweepOn}
 use Rattle.tree.specs.Plan.{Plan, splitBucket, planFrom, planOn}
 use Rattle.tree.specs.Writes.{writesOf, allClear, allWritten}
 use Rattle.tree.proofs.Examples.{entries, equal, rising, grown, thirteen, fourteen}
@@ -37,7 +37,7 @@ sweeps :
     ≡ some (10 ∷ 11 ∷ 12 ∷ 13 ∷ 14 ∷ []))
     × (sweepOn (treeBytes grown) 3 15 (λ p. getD rising p 0) 50601 50901 ≡ none)
 unfolding bucketStart treeBytes places bucketBytes entryBytes nodeIn entriesFrom kidsOf positionsGood nodeGood part repeated le bytes
-    sweepOn sweepFrom recordsGood hits
+    sweepOn gathered visitedFrom recordsGood hits
 sweeps = (refl, refl)
 
 -- the fourteenth load splits the root: the plan, and what its writes leave

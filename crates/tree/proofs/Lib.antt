@@ -20,3 +20,4 @@ pub mod ByteExamples
 pub mod Looked
 pub mod InNor
 pub mod Starts
+pub mod Visited

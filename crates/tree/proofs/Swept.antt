@@ -3,7 +3,7 @@
 use Prim.Native.Nat.{ℕ, zero, suc, _+_, _≤_, _<_}
 use mathlib.Core.Path.{_≡_, refl, sym, ap, _∙_}
 use mathlib.Core.Bool.{Bool, true, false, cond}
-use mathlib.Core.Option.{some}
+use mathlib.Core.Option.{Option, some}
 use mathlib.Core.List.{List, [], _∷_, List·Memᴰ, List·Memᴰ·head, List·Memᴰ·tail}
 use native.Mathlib.Omega.{arith}
 use lib.Dec.{eqb}
@@ -15,7 +15,8 @@ use Rattle.tree.specs.Search.{within, reached}
 use Rattle.tree.specs.Inner.Find.{findFrom, find}
 use Rattle.tree.specs.Bytes.{treeBytes}
 use Rattle.tree.specs.Reading.{Node, nodeIn, bucketAt}
-use Rattle.tree.specs.Sweep.{recordsGood, visitGood, sweepFrom, sweepOn}
+use Rattle.tree.specs.Sweep.{recordsGood, visitedFrom, visitGood, gathered, sweepOn}
+use Rattle.tree.proofs.Descent.{if}
 use Rattle.tree.proofs.Held.{Inv}
 use Rattle.tree.proofs.Built.{built-inv}
 use Rattle.tree.proofs.Homes.{placed}
@@ -52,19 +53,22 @@ module _ (ls hs : List ℕ) (t : List Bucket) (v : Inv ls hs t) (few : length ls
       (λ e m. let p = placed ls hs t v b e m in
       p .load ∙ sym (same (e .position) (p .below))))
 
-  sweeps : (n b : ℕ) (r : ℕ → Bool) → b + n ≤ length t
-      → sweepFrom (treeBytes t) (length t) (length ls) recorded k1 k2 n b r ≡ some (findFrom k1 k2 t n b r)
-  unfolding sweepFrom findFrom
+  -- what the buckets of a list give
+  abbrev given : List ℕ → Option (List ℕ)
+  given bs = gathered (treeBytes t) (length t) (length ls) recorded k1 k2 bs
+
+  abbrev from : ℕ → ℕ → (ℕ → Bool) → List ℕ
+  from n b r = visitedFrom (treeBytes t) k1 k2 n b r
+
+  sweeps : (n b : ℕ) (r : ℕ → Bool) → b + n ≤ length t → given (from n b r) ≡ some (findFrom k1 k2 t n b r)
+  unfolding gathered visitedFrom findFrom
   sweeps zero b r h = refl
   sweeps (suc n) b r h =
       let w = read b (omega arith) in
       let e : node b .entries ≡ at t b .entries = ap (λ (n : Node). n .entries) (w .same) in
-      rw (
-        cond-true (r b) _ (visit-good b (omega arith)),
-        w .kids,
-        e,
-        sweeps n (suc b) (cond (r b) (reached k1 k2 (at t b .kids) r) r) (omega arith),
-      )
+      if (r b)
+      (λ f. rw (f, visit-good b (omega arith), w .kids, e, sweeps n (suc b) (reached k1 k2 (at t b .kids) r) (omega arith)))
+      (λ f. rw f (sweeps n (suc b) r (omega arith)))
 
   pub sweep-inv : sweepOn (treeBytes t) (length t) (length ls) recorded k1 k2 ≡ some (find k1 k2 t)
   unfolding sweepOn find

@@ -6,7 +6,7 @@ ghost use Prim.Native.Nat.{_-_, _+_, _*_, _≤_, _<_};
 ghost use lib.ListN.{length};
 ghost use Rattle.tree.specs.Rules.{entriesMost};
 ghost use Rattle.tree.specs.Reading.{bucketAt, entryIn, entriesFrom, childAt, kidsOf, childGood, kidsGood, positionsGood};
-ghost use Rattle.tree.specs.Place.{placeOf, treeStart, bucketStart};
+ghost use Rattle.tree.specs.Place.{bucketPage, placeOf, treeStart, bucketStart};
 ghost use Rattle.tree.specs.Inner.Seen.{headOf, seenNode};
 
 // "numbers run 0–35"
@@ -81,6 +81,15 @@ pub fn place_of(b: Bucket) -> Place
         page: Page(flash::TREE_FIRST + n / BUCKETS_PER_PAGE),
         offset: BUCKET_BYTES * (n % BUCKETS_PER_PAGE),
     }
+}
+
+// The page that holds a bucket.
+pub fn page_of(b: Bucket) -> usize
+    ensures { λ r. ⌜ r ≡ bucketPage (b .0) ⌝ }
+{
+    let p = place_of(b);
+    let page = p.page;
+    page.0
 }
 
 // Where a page starts in the tree's area, whose first page is 20.

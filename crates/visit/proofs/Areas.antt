@@ -1,21 +1,25 @@
 -- The records and buckets of a segment lie within its areas: the open segment's in NAND, NOR and the page buffer. Assumes
 -- nothing.
 use mathlib.Core.Path.{_≡_, _∙_}
-use mathlib.Core.List.{List}
-use Prim.Native.Nat.{ℕ, _+_, _-_, _*_, _<_}
+use mathlib.Core.List.{List, map}
+use Prim.Native.Nat.{ℕ, _+_, _-_, _*_, _≤_, _<_}
 use native.Mathlib.Nat.{mod-lt}
 use native.Mathlib.Omega.{arith}
 use lib.ListN.{length}
 use Rattle.codec.proofs.Areas.{length-part}
 use Rattle.flash.specs.Chip.{slotOf, pagesOf, norTree}
+use Rattle.bitset.specs.Set.{distinct}
 use Rattle.bitset.specs.Inner.Words.{emptyWords}
+use Rattle.tree.specs.Place.{bucketPage}
+use Rattle.tree.specs.Sweep.{visitedOn}
+use Rattle.tree.proofs.Visited.{visited-most}
 use Rattle.sweep.specs.declared.Records.{Records}
 use Rattle.sweep.specs.declared.Sweep.{Sweep}
 use Rattle.sweep.specs.Inner.Swept.{sweptFrom, Recorded, Held}
 use Rattle.visit.specs.declared.Closed.{Closed}
 use Rattle.visit.specs.declared.Log.{Log}
 use Rattle.visit.specs.declared.Query.{Query}
-use Rattle.visit.specs.Visit.{closedLifts, openLifts, matchesOf, closedMatches, openMatches}
+use Rattle.visit.specs.Visit.{closedLifts, openLifts, matchesOf, closedMatches, treeRead, openMatches}
 use Rattle.visit.specs.Inner.Sound.{ClosedSound, LogSound, closedRecords, openRecords}
 
 -- ---- a closed segment
@@ -40,6 +44,15 @@ module _ (nand : List ℕ) (s : Closed) (sound : ClosedSound nand s) where
         → m ≡ sweptFrom emptyWords (closedMatches nand s q)
     unfolding closedMatches
     closed-are q m e = e ∙ rw (t-is, l-is, r-is)
+
+    pub closed-read : (q : Query) (n : ℕ) → n ≡ distinct (map bucketPage (visitedOn t (r .buckets) (q .k1) (q .k2))) → n ≡ treeRead nand s q
+    unfolding treeRead
+    closed-read q n e = e ∙ rw (t-is, r-is)
+
+  -- no more pages than the tree has
+  pub read-most : (q : Query) → treeRead nand s q ≤ 9
+  unfolding treeRead
+  read-most q = visited-most (pagesOf nand (s .slot) 20 9) (q .k1) (q .k2) (s .buckets) (sound .buckets-most)
 
 -- ---- the open segment
 

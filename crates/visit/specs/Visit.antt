@@ -6,8 +6,9 @@ use Prim.Native.Nat.{ℕ}
 use lib.Dec.{eqb, leb}
 use Rattle.flash.specs.Chip.{slotOf, pagesOf, norTree, treeFirst, treePages}
 use Rattle.lift.specs.Rows.{timeIn, codeIn, recordIn, liftsMost, inFullPages}
-use Rattle.bitset.specs.Set.{picked, elem}
-use Rattle.tree.specs.Sweep.{sweepOn}
+use Rattle.bitset.specs.Set.{picked, elem, distinct}
+use Rattle.tree.specs.Place.{bucketPage}
+use Rattle.tree.specs.Sweep.{visitedOn, sweepOn}
 use Rattle.visit.specs.declared.Closed.{Closed}
 use Rattle.visit.specs.declared.Log.{Log}
 use Rattle.visit.specs.declared.Query.{Query}
@@ -36,6 +37,10 @@ closedLifts nand s = pagesOf nand (s .slot) 0 treeFirst
 unfoldable pub closedMatches : List ℕ → Closed → Query → Option (List ℕ)
 closedMatches nand s q =
     matchesOf (pagesOf nand (s .slot) treeFirst treePages) (closedLifts nand s) (closedLifts nand s) liftsMost (s .count) (s .buckets) q
+
+-- W-207: how many tree pages of a closed segment hold a bucket visited
+unfoldable pub treeRead : List ℕ → Closed → Query → ℕ
+treeRead nand s q = distinct (map bucketPage (visitedOn (pagesOf nand (s .slot) treeFirst treePages) (s .buckets) (q .k1) (q .k2)))
 
 -- of the open segment: its full pages are in NAND, the rest in the page buffer
 abbrev pub openLifts : List ℕ → Log → List ℕ

@@ -5,13 +5,20 @@ use skiplist::Pointer;
 use sweep::Range;
 use sweep::Records;
 use sweep::Sweep;
+use sweep::Swept;
 ghost use mathlib.Core.Path.{_≡_};
+ghost use mathlib.Core.Bool.{true};
+ghost use mathlib.Core.List.{map};
 ghost use Prim.Native.Nat.{_+_, _*_, _≤_};
+ghost use lib.Count.{ones};
 ghost use lib.ListN.{length};
 ghost use Rattle.flash.specs.Chip.{pageWidth, slotWidth};
+ghost use Rattle.bitset.specs.Set.{distinct};
 ghost use Rattle.bitset.specs.Inner.Words.{emptyWords};
+ghost use Rattle.tree.specs.Place.{bucketPage};
+ghost use Rattle.tree.specs.Sweep.{visitedOn};
 ghost use Rattle.sweep.specs.Inner.Swept.{sweptFrom, Held};
-ghost use Rattle.visit.specs.Visit.{matchesOf, closedMatches, openMatches, closedLifts, openLifts};
+ghost use Rattle.visit.specs.Visit.{matchesOf, closedMatches, treeRead, openMatches, closedLifts, openLifts};
 ghost use Rattle.visit.specs.Inner.Sound.{ClosedSound, LogSound, closedRecords, openRecords};
 
 // Times from t1 to t2, stored loads from k1 to k2.
@@ -44,11 +51,13 @@ pub struct Closed {
     pub buckets: u8,
 }
 
-// The matches of one segment.
-fn matches(tree: &[u8], lifts: &[u8], tail: &[u8], g: Records, q: Query) -> Sweep
+// The matches of one segment, and the mask of its tree pages that hold a bucket visited.
+fn matches(tree: &[u8], lifts: &[u8], tail: &[u8], g: Records, q: Query) -> Swept
     requires { ⌜ Held (now tree) (now lifts) (now tail) g ⌝ }
-    ensures { λ r. ⌜ r ≡ sweptFrom emptyWords (matchesOf (now (tree .entry)) (now (lifts .entry)) (now (tail .entry))
+    ensures found { λ r. ⌜ r .found ≡ sweptFrom emptyWords (matchesOf (now (tree .entry)) (now (lifts .entry)) (now (tail .entry))
         (g .first) (g .count) (g .buckets) q) ⌝ }
+    ensures pages { λ r. ⌜ (r .found .good ≡ true
+        → ones (r .read) ≡ distinct (map bucketPage (visitedOn (now (tree .entry)) (g .buckets) (q .k1) (q .k2)))) ⌝ }
 {
     let r = Range {
         t1: q.t1,
@@ -77,14 +86,23 @@ pub fn closed_lifts(nand: &[u8], s: Closed) -> &[u8]
     flash::pages_of(nand, s.slot, Page(0), flash::TREE_FIRST)
 }
 
-pub fn closed_matches(nand: &[u8], s: Closed, q: Query) -> Sweep
+pub fn closed_sweep(nand: &[u8], s: Closed, q: Query) -> Swept
     requires { ⌜ ClosedSound (now nand) s ⌝ }
-    ensures { λ r. ⌜ r ≡ sweptFrom emptyWords (closedMatches (now (nand .entry)) s q) ⌝ }
+    ensures found { λ r. ⌜ r .found ≡ sweptFrom emptyWords (closedMatches (now (nand .entry)) s q) ⌝ }
+    ensures pages { λ r. ⌜ (r .found .good ≡ true → ones (r .read) ≡ treeRead (now (nand .entry)) s q) ⌝ }
 {
     let lifts = closed_lifts(nand, s);
     let t = flash::pages_of(nand, s.slot, Page(flash::TREE_FIRST), flash::TREE_PAGES);
     let g = closed_records(s);
     matches(t, lifts, lifts, g, q)
+}
+
+pub fn closed_matches(nand: &[u8], s: Closed, q: Query) -> Sweep
+    requires { ⌜ ClosedSound (now nand) s ⌝ }
+    ensures { λ r. ⌜ r ≡ sweptFrom emptyWords (closedMatches (now (nand .entry)) s q) ⌝ }
+{
+    let m = closed_sweep(nand, s, q);
+    m.found
 }
 
 // The open segment's full pages of records are in NAND, the rest in the page buffer.
@@ -115,5 +133,6 @@ pub fn open_matches(nand: &[u8], nor: &[u8], page: &[u8], g: Log, q: Query) -> S
     let lifts = open_lifts(nand, g);
     let t = flash::nor_tree(nor);
     let r = open_records(g);
-    matches(t, lifts, page, r, q)
+    let m = matches(t, lifts, page, r, q);
+    m.found
 }

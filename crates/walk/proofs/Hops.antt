@@ -5,7 +5,7 @@ use mathlib.Core.Bool.{Bool, true, false, cond, not, _&&_, _||_}
 use mathlib.Core.List.{List, [], _∷_}
 use Prim.Native.Nat.{ℕ, zero, suc, _+_, _*_, _≤_, _<_}
 use native.Mathlib.Omega.{arith}
-use lib.Dec.{eqb, ltb, leb}
+use lib.Dec.{ltb, leb}
 use lib.ListN.{length, getD}
 use borrow.Author.Tests.{ltb-true, not-false}
 use Rattle.flash.specs.Chip.{pageOf}
@@ -19,7 +19,7 @@ use Rattle.visit.specs.declared.Log.{Log}
 use Rattle.visit.specs.declared.Query.{Query}
 use Rattle.visit.specs.Inner.Sound.{InSlots}
 use Rattle.walk.specs.declared.Cursor.{Cursor}
-use Rattle.walk.specs.Seek.{SkipWalk, headerAt, hopAt, hop, hops, skipWalk, reachedBy, isLast, startOf}
+use Rattle.walk.specs.Seek.{SkipWalk, headerAt, hopAt, hop, hops, skipWalk, reachedBy, openIsLast, startOf, movesOf}
 use Rattle.walk.specs.Inner.Placed.{hopsAt, hopsLeft}
 use Rattle.walk.specs.Inner.Sound.{Begun}
 
@@ -73,10 +73,10 @@ module _ (nand : List ℕ) (slots : ℕ) (live : Live) (t2 : ℕ) where
 
   -- a hop by its three cases
   hop-cases : (P : SkipWalk → Type 0) (w : SkipWalk) (k : ℕ)
-      → P (record { good = true; level = k; before = w .before; pointers = w .pointers })
+      → P (record { good = true; level = k; before = w .before; pointers = w .pointers; moves = w .moves })
       → (header w k .good ≡ true
-      → P (record { good = true; level = suc k; before = header w k .serial; pointers = header w k .next }))
-      → P (record { good = false; level = 0; before = header w k .serial; pointers = header w k .next })
+      → P (record { good = true; level = suc k; before = header w k .serial; pointers = header w k .next; moves = w .moves + 1 }))
+      → P (record { good = false; level = 0; before = header w k .serial; pointers = header w k .next; moves = w .moves + 1 })
       → P (next w k)
   unfolding hopAt
   hop-cases P w k down onward bad =
@@ -87,10 +87,10 @@ module _ (nand : List ℕ) (slots : ℕ) (live : Live) (t2 : ℕ) where
             good = header w k .good;
             level = cond (header w k .good) (suc k) 0;
             before = header w k .serial;
-            pointers =
-                header w k .next;
+            pointers = header w k .next;
+            moves = w .moves + 1;
           })
-          (record { good = true; level = k; before = w .before; pointers = w .pointers }))
+          (record { good = true; level = k; before = w .before; pointers = w .pointers; moves = w .moves }))
       go false b e = down
       go true true e = rw e (onward e)
       go true false e = rw e bad
@@ -182,13 +182,13 @@ module _ (nand : List ℕ) (slots : ℕ) (live : Live) (t2 : ℕ) where
 -- ---- the walk from the heads, and where it leads
 
 pub walk-starts : (slots current : ℕ) (heads : List Pointer) → InSlots slots heads
-    → Walked slots current (record { good = true; level = 4; before = current; pointers = heads })
+    → Walked slots current (record { good = true; level = 4; before = current; pointers = heads; moves = 0 })
 walk-starts slots current heads h = record { stays = λ a. refl; most = omega arith; pointed = λ a. h; falling = λ a. omega arith }
 
 pub start-begun : (nand : List ℕ) (g : Log) (live : Live) (q : Query) → InSlots (g .slots) (g .heads)
     → Begun g (startOf nand g live q)
 unfolding startOf skipWalk
-start-begun nand g live q h = go (not (eqb (g .count) 0) && isLast (live .form) (g .start) (q .t1))
+start-begun nand g live q h = go (openIsLast g live q)
   where
     v : Walked (g .slots) (g .current) (skipWalk nand g live (q .t2))
     v =
@@ -203,13 +203,17 @@ start-begun nand g live q h = go (not (eqb (g .count) 0) && isLast (live .form) 
 -- as the code makes it
 
 module _ (nand : List ℕ) (g : Log) (live : Live) (q : Query) where
-  pub start-none : (not (eqb (g .count) 0) && isLast (live .form) (g .start) (q .t1)) ≡ true
-      → _≡_ {A = Cursor} (record { good = true; last = true; next = none; before = g .current }) (startOf nand g live q)
-  unfolding startOf
-  start-none e = rw e
+  -- where they begin, and the moves on the way there
+  pub record Starts (at : Cursor) (moves : ℕ) : Type 0 where
+    pub at-is : at ≡ startOf nand g live q
+    pub moves-are : moves ≡ movesOf nand g live q
 
-  pub start-reached : (not (eqb (g .count) 0) && isLast (live .form) (g .start) (q .t1)) ≡ false
+  pub start-none : openIsLast g live q ≡ true → Starts (record { good = true; last = true; next = none; before = g .current }) 0
+  unfolding startOf movesOf
+  start-none e = record { at-is = rw e; moves-are = rw e }
+
+  pub start-reached : openIsLast g live q ≡ false
       → (w : SkipWalk) → w ≡ skipWalk nand g live (q .t2) → (first : Pointer) → first ≡ getD (w .pointers) 0 none
-      → _≡_ {A = Cursor} (record { good = w .good; last = not (w .good); next = first; before = w .before }) (startOf nand g live q)
-  unfolding startOf
-  start-reached e w is first f = rw (e, ← is, f)
+      → Starts (record { good = w .good; last = not (w .good); next = first; before = w .before }) (w .moves)
+  unfolding startOf movesOf
+  start-reached e w is first f = record { at-is = rw (e, ← is, f); moves-are = rw (e, ← is) }

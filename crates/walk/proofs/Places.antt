@@ -2,11 +2,11 @@
 use mathlib.Core.Path.{_≡_, refl, sym, ap, _∙_}
 use mathlib.Core.Bool.{Bool, true, false, cond, not, _&&_}
 use mathlib.Core.List.{List}
-use Prim.Native.Nat.{ℕ, suc, _+_, _*_, _≤_, _<_}
+use Prim.Native.Nat.{ℕ, suc, _+_, _*_, _^_, _≤_, _<_}
 use native.Mathlib.Omega.{arith}
-use lib.Dec.{ltb}
+use lib.Dec.{eqb, ltb}
 use lib.ListN.{length, getD}
-use borrow.Author.Tests.{not-true, not-false}
+use borrow.Author.Tests.{not-true, not-false, ne-eqb}
 use Rattle.codec.proofs.Truth.{and-parts}
 use Rattle.codec.specs.Number.{numberAt}
 use Rattle.flash.specs.Chip.{pageOf}
@@ -25,18 +25,18 @@ use Rattle.walk.proofs.Hops.{live-inside, left-level, hop-falls, walk-s
 
 -- ---- what the code reads
 
-pub loaded-made : (nand : List ℕ) (slots slot before : ℕ) (page : List ℕ) → page ≡ pageOf nand slot 31 → (good : Bool) (serial : ℕ)
+pub loaded-made : (nand : List ℕ) (slots slot before moves : ℕ) (page : List ℕ) → page ≡ pageOf nand slot 31 → (good : Bool) (serial : ℕ)
     → good ≡ headerGood New page slots before → serial ≡ numberAt page 0 4
-    → _≡_ {A = Place} (record { good = good; first = false; slot = slot; before = serial }) (loadedAt nand slots slot before)
-loaded-made nand slots slot before page is good serial e f = rw (e, f, is)
+    → _≡_ {A = Place} (record { good = good; slot = slot; before = serial; moves = moves }) (loadedAt nand slots slot before moves)
+loaded-made nand slots slot before moves page is good serial e f = rw (e, f, is)
 
 module _ (nand : List ℕ) (heads : List Pointer) (w : Place) (k : ℕ) (p : Pointer) where
-  pub pointer-head : w .first ≡ true → p ≡ getD heads k none → p ≡ getD (pointersOf nand heads w) k none
+  pub pointer-head : w .moves ≡ 0 → p ≡ getD heads k none → p ≡ getD (pointersOf nand heads w) k none
   pointer-head e f = rw e f
 
-  pub pointer-there : w .first ≡ false → (page : List ℕ) → page ≡ pageOf nand (w .slot) 31 → p ≡ getD (pointersAt New page 40) k none
+  pub pointer-there : (w .moves ≡ 0 → ⊥) → (page : List ℕ) → page ≡ pageOf nand (w .slot) 31 → p ≡ getD (pointersAt New page 40) k none
       → p ≡ getD (pointersOf nand heads w) k none
-  pointer-there e page is f = rw (e, ← is) f
+  pointer-there e page is f = rw (ne-eqb (w .moves) 0 e, ← is) f
 
 -- ---- a hop
 
@@ -72,25 +72,31 @@ module _ (nand : List ℕ) (slots oldest t2 : ℕ) (heads : List Pointer) (k : �
     goes : (live && ltb t2 (p .time)) ≡ true
     goes = and-parts (w .good) (live && ltb t2 (p .time)) (not-false _ onward) .1
 
+    pub next-few : PlaceSound nand slots heads w → w .moves < 2 ^ 32
+    next-few s = omega (arith, s .few is-good)
+
     pub next-inside : length nand ≡ slots * 16384 → PlaceSound nand slots heads w → p .slot * 16384 + 16384 ≤ length nand
     next-inside size s =
         live-inside (length nand) slots (serialsFrom oldest) p size (rw p-is (s .pointed is-good k))
         (sym live-is ∙ and-parts live (ltb t2 (p .time)) goes .0)
 
     next : Place
-    next = loadedAt nand slots (p .slot) (w .before)
+    next = loadedAt nand slots (p .slot) (w .before) (w .moves + 1)
+
+    moved : eqb (w .moves + 1) 0 ≡ false
+    moved = ne-eqb (w .moves + 1) 0 (λ e. omega arith)
 
     on : walkAt nand heads (suc k) next ≡ hopAt nand slots (serialsFrom oldest) t2 here k
     unfolding hopAt headerIn next
-    on = rw (← p-is, ← live-is, goes)
+    on = rw (← p-is, ← live-is, goes, moved)
 
-    pub next-leads : (u : Place) → u ≡ loadedAt nand slots (p .slot) (w .before) → Leads (walkAt nand heads (suc k) u) here
+    pub next-leads : (u : Place) → u ≡ loadedAt nand slots (p .slot) (w .before) (w .moves + 1) → Leads (walkAt nand heads (suc k) u) here
     unfolding next
     next-leads u e =
         ap (λ (v : Place). walkedOn nand slots (serialsFrom oldest) t2 (walkAt nand heads (suc k) v)) e
         ∙ ap (walkedOn nand slots (serialsFrom oldest) t2) on ∙ walk-step nand slots (serialsFrom oldest) t2 here k (level-is is-good)
 
-    pub next-falls : (u : Place) → u ≡ loadedAt nand slots (p .slot) (w .before)
+    pub next-falls : (u : Place) → u ≡ loadedAt nand slots (p .slot) (w .before) (w .moves + 1)
         → hopsLeft (walkAt nand heads (suc k) u) < hopsLeft here
     unfolding next
     next-falls u e =
@@ -100,28 +106,26 @@ module _ (nand : List ℕ) (slots oldest t2 : ℕ) (heads : List Pointer) (k : �
         ap (λ (v : Place). hopsLeft (walkAt nand heads (suc k) v)) e ∙ ap hopsLeft on in
         omega (arith, f, l, q)
 
-    pub next-sound : length nand ≡ slots * 16384 → PlaceSound nand slots heads w → (u : Place) → u ≡ loadedAt nand slots (p .slot) (w .before)
+    pub next-sound : length nand ≡ slots * 16384 → PlaceSound nand slots heads w → (u : Place) → u ≡ loadedAt nand slots (p .slot) (w .before) (w .moves + 1)
         → PlaceSound nand slots heads u
     unfolding headerIn
     next-sound size s u e =
         rw e
         (record {
           inside = λ n. next-inside size s;
-          pointed = λ g i. good-slots slots _ i (header-facts New (pageOf nand (p .slot) 31) slots (w .before) g .pointers);
+          pointed = λ g i. rw moved (good-slots slots _ i (header-facts New (pageOf nand (p .slot) 31) slots (w .before) g .pointers));
+          few = λ g. omega (arith, s .few is-good, header-facts New (pageOf nand (p .slot) 31) slots (w .before) g .serial-below);
         })
 
 -- from the heads, and where all four levels lead
-pub heads-sound : (nand : List ℕ) (slots current : ℕ) (heads : List Pointer) → InSlots slots heads
-    → PlaceSound nand slots heads (record { good = true; first = true; slot = 0; before = current })
-heads-sound nand slots current heads h = record { inside = λ e. no e; pointed = λ e. h }
-  where
-    no : {P : Type 0} → true ≡ false → P
-    no e = let z : _≡_ {A = ℕ} 0 1 = cc in absurd (omega arith)
+pub heads-sound : (nand : List ℕ) (slots current : ℕ) (heads : List Pointer) → InSlots slots heads → current < 2 ^ 32
+    → PlaceSound nand slots heads (record { good = true; slot = 0; before = current; moves = 0 })
+heads-sound nand slots current heads h n = record { inside = λ e. absurd (e refl); pointed = λ e. h; few = λ e. omega arith }
 
 pub levels-done : (nand : List ℕ) (g : Log) (t2 : ℕ) (w : Place)
     → walkedOn nand (g .slots) (serialsFrom (g .oldest)) t2 (walkAt nand (g .heads) 0 w)
     ≡ walkedOn nand (g .slots) (serialsFrom (g .oldest)) t2
-    (walkAt nand (g .heads) 4 (record { good = true; first = true; slot = 0; before = g .current }))
+    (walkAt nand (g .heads) 4 (record { good = true; slot = 0; before = g .current; moves = 0 }))
     → walkAt nand (g .heads) 0 w ≡ skipWalk nand g (serialsFrom (g .oldest)) t2
 unfolding skipWalk
 levels-done nand g t2 w e = sym (walk-end nand (g .slots) (serialsFrom (g .oldest)) t2 (walkAt nand (g .heads) 0 w) (none (w .good))) ∙ e

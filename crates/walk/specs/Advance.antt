@@ -7,6 +7,7 @@ use lib.ListN.{getD}
 use Rattle.flash.specs.Chip.{pagesOf, bloomFirst}
 use Rattle.bloom.specs.Bloom.{mayHold}
 use Rattle.bloom.specs.Pages.{sectionCount, sectionsIn}
+use Rattle.bloom.specs.Tried.{pagesTried}
 use Rattle.form.specs.declared.Form.{Form}
 use Rattle.skiplist.specs.Skip.{Live, none, isLive}
 use Rattle.header.specs.declared.Header.{Header}
@@ -17,12 +18,22 @@ use Rattle.walk.specs.declared.Step.{Step}
 use Rattle.walk.specs.declared.Step.the-variants.{End, Damage, Pass, Visit}
 use Rattle.walk.specs.Seek.{headerAt, isLast}
 
+-- "its load span misses the range"
+abbrev pub spanMisses : Header → Query → Bool
+spanMisses h q = ltb (h .high) (q .k1) || ltb (q .k2) (h .low)
+
+-- the Bloom sections of the segment in a slot
+abbrev pub sectionsAt : List ℕ → ℕ → Header → List (List ℕ)
+sectionsAt nand slot h = sectionsIn (pagesOf nand slot bloomFirst 2) (sectionCount (h .count))
+
 -- "A closed segment is passed over if its load span misses the range or, for equal loads, if some hash bit is clear in all
 -- sections."
 unfoldable pub isPassed : List ℕ → ℕ → Header → Query → Bool
-isPassed nand slot h q =
-    (ltb (h .high) (q .k1) || ltb (q .k2) (h .low))
-    || (not (ltb (q .k1) (q .k2)) && not (mayHold (sectionsIn (pagesOf nand slot bloomFirst 2) (sectionCount (h .count))) (q .k1)))
+isPassed nand slot h q = spanMisses h q || (not (ltb (q .k1) (q .k2)) && not (mayHold (sectionsAt nand slot h) (q .k1)))
+
+-- W-207: how many Bloom pages hold a bit tried; "If the load span meets the range, Bloom bits are tried", for equal loads
+unfoldable pub bloomRead : List ℕ → ℕ → Header → Query → ℕ
+bloomRead nand slot h q = cond (spanMisses h q || ltb (q .k1) (q .k2)) 0 (pagesTried (sectionsAt nand slot h) (q .k1))
 
 -- "Then level 1", until the last one has been done
 abbrev pub cursorAfter : Form → Header → Query → Cursor

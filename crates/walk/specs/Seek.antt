@@ -17,12 +17,13 @@ use Rattle.visit.specs.declared.Query.{Query}
 use Rattle.walk.specs.declared.Cursor.{Cursor}
 
 -- the skip walk: no damage so far; the level it is at, 4 down to 1, 0 at its end; the serial of the header loaded last, or the open
--- serial; the pointers that it goes on from
+-- serial; the pointers that it goes on from; its moves, a header page loaded at each
 pub record SkipWalk : Type 0 where
   pub good : Bool
   pub level : ℕ
   pub before : ℕ
   pub pointers : List Pointer
+  pub moves : ℕ
 
 -- the header that a pointer leads to; its serial is to be below the one before
 abbrev pub headerAt : Form → List ℕ → ℕ → Pointer → ℕ → Header
@@ -35,8 +36,8 @@ hopAt nand slots live t2 w k =
     let p = getD (w .pointers) k none in
     let h = headerAt (live .form) nand slots p (w .before) in
     cond (isLive p live && ltb t2 (p .time))
-    (record { good = h .good; level = cond (h .good) (suc k) 0; before = h .serial; pointers = h .next })
-    (record { good = true; level = k; before = w .before; pointers = w .pointers })
+    (record { good = h .good; level = cond (h .good) (suc k) 0; before = h .serial; pointers = h .next; moves = w .moves + 1 })
+    (record { good = true; level = k; before = w .before; pointers = w .pointers; moves = w .moves })
 
 abbrev pub hop : List ℕ → ℕ → Live → ℕ → SkipWalk → ℕ → SkipWalk
 hop nand slots live t2 w zero = w
@@ -51,7 +52,7 @@ hops (suc n) nand slots live t2 w = hops n nand slots live t2 (hop nand slots li
 unfoldable pub skipWalk : List ℕ → Log → Live → ℕ → SkipWalk
 skipWalk nand g live t2 =
     hops (g .current + levels) nand (g .slots) live t2
-    (record { good = true; level = levels; before = g .current; pointers = g .heads })
+    (record { good = true; level = levels; before = g .current; pointers = g .heads; moves = 0 })
 
 -- "the level 1 pointer then reached"
 abbrev pub reachedBy : SkipWalk → Cursor
@@ -63,9 +64,16 @@ abbrev pub isLast : Form → ℕ → ℕ → Bool
 isLast Old start t1 = leb start t1
 isLast New start t1 = ltb start t1
 
--- the open segment, if it has lifts, may be the last: then there is nothing to do in the closed ones
+-- the open segment, if it has lifts, may be the last: then there is nothing to do in the closed ones, and no walk takes place
+abbrev pub openIsLast : Log → Live → Query → Bool
+openIsLast g live q = not (eqb (g .count) 0) && isLast (live .form) (g .start) (q .t1)
+
 unfoldable pub startOf : List ℕ → Log → Live → Query → Cursor
 startOf nand g live q =
-    cond (not (eqb (g .count) 0) && isLast (live .form) (g .start) (q .t1))
+    cond (openIsLast g live q)
     (record { good = true; last = true; next = none; before = g .current })
     (reachedBy (skipWalk nand g live (q .t2)))
+
+-- W-207: "the number of header pages loaded while it finds the newest closed segment"
+unfoldable pub movesOf : List ℕ → Log → Live → Query → ℕ
+movesOf nand g live q = cond (openIsLast g live q) 0 (skipWalk nand g live (q .t2) .moves)

@@ -9,8 +9,10 @@ use Rattle.lift.specs.Limits.{stored}
 use Rattle.lift.specs.Record.{recordBytes}
 use Rattle.lift.specs.Rows.{timeIn, codeIn, recordIn}
 use Rattle.split.specs.Split.{overlap, rule, bring, mid, sum, weighed, slope, fitted, lowFrom, highFrom, low, high, midpoint}
-use Rattle.bloom.specs.Bloom.{multiplier, bloomBit, noted, notedAll, emptySection, sectionOf}
+use Rattle.bitset.specs.Set.{elem, distinct}
+use Rattle.bloom.specs.Bloom.{multiplier, bloomBit, noted, notedAll, emptySection, sectionOf, someSet}
 use Rattle.bloom.specs.Pages.{each, fragmentLength, sectionsFrom, fragment, fragments, zeroFilled, bloomPage}
+use Rattle.bloom.specs.Tried.{triedOf, pagesTried}
 use Rattle.skiplist.specs.Skip.{levelOf, nodeOf, headsAfter}
 use Rattle.skiplist.specs.PointerBytes.{pointerBytes, pointersBytes, pointerAt, pointersAt}
 use Rattle.tree.specs.Place.{bucketStart}
@@ -19,7 +21,7 @@ use Rattle.tree.specs.Bytes as TreeBytes
 use Rattle.tree.specs.Bytes.{entryBytes, bucketBytes, treeBytes}
 use Rattle.tree.specs.Reading.{entriesFrom, nodeIn, kidsOf, positionsGood, nodeGood}
 use Rattle.tree.specs.Search.{hits}
-use Rattle.tree.specs.Sweep.{recordsGood, sweepFrom, sweepOn}
+use Rattle.tree.specs.Sweep.{recordsGood, visitedFrom, gathered, sweepOn}
 use Rattle.tree.specs.Plan.{planFrom, planOn}
 use Rattle.tree.specs.Writes.{writesOf, allClear, allWritten}
 use Rattle.bounds.specs.Bounds.{serialsOk, countsOk, timesOk, spanOk, loadsOk}
@@ -27,7 +29,7 @@ use Rattle.bounds.specs.Grounds.{formatGround, liftGround, queryGround}
 use Rattle.header.specs.Header.{countBytes, spanBytes, headerPage}
 use Rattle.header.specs.Header.{countsGood, spanGood, pointerGood, pointersGood, headerGood, headerIn}
 use Rattle.segment.specs.Pages.{pageDue, pagesErased, treePage}
-use Rattle.walk.specs.Seek.{hopAt, hops, skipWalk}
+use Rattle.walk.specs.Seek.{hopAt, hops, skipWalk, movesOf}
 use Rattle.loads.specs.Signed.{unsigned, sideBySide, loadBytes}
 use Rattle.state_bytes.specs.StateBytes.{bytesIn, stateBytes, oldStateBytes}
 use Rattle.store.specs.Bounds.{headsOk, withinBounds}
@@ -42,6 +44,7 @@ use Rattle.worked_examples.specs.StateAreas.{stateAreas}
 use Rattle.worked_examples.specs.Bounds.{serialBounds, timeBounds, loadBounds, grounds, segments}
 use Rattle.worked_examples.specs.Refusals.{refusals}
 use Rattle.worked_examples.specs.Damage.{headerDamage, serialDamage, bucketDamage, recordDamage, norDamage}
+use Rattle.worked_examples.specs.PagesRead.{headsTo, slotWith, eightClosed, headerPages, setAll, bloomPages, treePages}
 
 midpoints-right : Agrees midpoints
 unfolding midpoints mid overlap rule bring
@@ -134,12 +137,26 @@ unfolding bucketDamage bucketStart splice part le nodeIn entriesFrom kidsOf node
 buckets-judged = refl
 
 records-judged : Agrees recordDamage
-unfolding recordDamage bucketStart splice part le nodeIn entriesFrom kidsOf nodeGood positionsGood recordsGood sweepOn sweepFrom hits codeIn
+unfolding recordDamage bucketStart splice part le nodeIn entriesFrom kidsOf nodeGood positionsGood recordsGood sweepOn gathered visitedFrom hits codeIn
 records-judged = refl
 
 nor-judged : Agrees norDamage
 unfolding norDamage bucketStart splice part allOnes norClear allClear writesOf
 nor-judged = refl
+
+header-pages-right : Agrees headerPages
+unfolding headerPages headsTo slotWith eightClosed
+    movesOf skipWalk hops hopAt levelOf trailingZeros nodeOf headsAfter headerPage countBytes spanBytes pointersBytes pointerBytes bytes repeated
+    headerIn part le headerGood countsGood spanGood pointersAt pointerAt pointersGood pointerGood fragmentLength
+header-pages-right = refl
+
+bloom-pages-right : Agrees bloomPages
+unfolding bloomPages setAll pagesTried triedOf multiplier bloomBit someSet fragmentLength distinct elem
+bloom-pages-right = refl
+
+tree-pages-right : Agrees treePages
+unfolding treePages distinct elem
+tree-pages-right = refl
 
 -- split and tree, bytes and places, bounds and grounds, damage
 pub our-examples :
@@ -147,6 +164,7 @@ pub our-examples :
     × Agrees places × Agrees layouts × Agrees bloom × Agrees headers × Agrees stateAreas
     × Agrees serialBounds × Agrees timeBounds × Agrees loadBounds × Agrees grounds × Agrees segments × Agrees refusals
     × Agrees headerDamage × Agrees serialDamage × Agrees bucketDamage × Agrees recordDamage × Agrees norDamage
+    × Agrees headerPages × Agrees bloomPages × Agrees treePages
 our-examples = (
   midpoints-right,
   predictions-right,
@@ -169,4 +187,7 @@ our-examples = (
   buckets-judged,
   records-judged,
   nor-judged,
+  header-pages-right,
+  bloom-pages-right,
+  tree-pages-right,
 )

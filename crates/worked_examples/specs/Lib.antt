@@ -9,3 +9,4 @@ pub mod StateAreas
 pub mod Bounds
 pub mod Damage
 pub mod Refusals
+pub mod PagesRead

@@ -1,6 +1,7 @@
 //! Document 01, "Bloom": the bits of a load, the sections, and the pages that hold them.
 use super::work::{page_of, BLOOM_PAGE, SECTION_BYTES};
 use script::areas::PAGE_BYTES;
+use std::collections::BTreeSet;
 
 const MULTIPLIERS: [u64; 3] = [2_654_435_761, 2_246_822_519, 3_266_489_917];
 
@@ -41,15 +42,27 @@ pub fn bloom_page(sections: &[Vec<u8>], index: usize) -> Vec<u8> {
     page
 }
 
-/// Whether some bit of the load is clear in all sections of a closed segment.
-pub fn rules_out(nand: &[u8], slot: usize, sections: usize, load: i32) -> bool {
+/// What the bits of a load tell of a closed segment.
+pub struct Tried {
+    /// Some bit is clear in all sections.
+    pub rules_out: bool,
+    /// The Bloom pages that hold a bit tried.
+    pub pages: BTreeSet<usize>,
+}
+
+/// "Bloom bits are tried in the order of document 01, up to the first that is clear in all sections." (W-207)
+pub fn try_bits(nand: &[u8], slot: usize, sections: usize, load: i32) -> Tried {
     let length = fragment_length(sections);
-    let is_set = |bit: usize, section: usize| {
-        let byte = bit / 8;
-        let page = page_of(nand, slot, BLOOM_PAGE + byte / length);
-        page[section * length + byte % length] & mask(bit) != 0
-    };
-    bits(load).iter().any(|bit| !(0..sections).any(|section| is_set(*bit, section)))
+    let mut pages = BTreeSet::new();
+    for bit in bits(load) {
+        let (index, byte) = (bit / 8 / length, bit / 8 % length);
+        let page = page_of(nand, slot, BLOOM_PAGE + index);
+        pages.insert(BLOOM_PAGE + index);
+        if (0..sections).all(|section| page[section * length + byte] & mask(bit) == 0) {
+            return Tried { rules_out: true, pages };
+        }
+    }
+    Tried { rules_out: false, pages }
 }
 
 #[cfg(test)]

@@ -2,7 +2,7 @@
 use super::append::{append_lift, drop_oldest_closed};
 use super::carry::carry_over;
 use super::close::close_segment;
-use super::search::{find, load_of, Record};
+use super::search::{find, load_of, Found, PagesRead};
 use super::state::State;
 use super::work::{put_state, Work};
 use crate::limits::*;
@@ -15,7 +15,7 @@ use script::form::Form;
 
 const NOR_BYTES: usize = 6_144;
 
-/// Answers any call on any areas as document 01 says, in form 1 as W-202 and W-206 amend it, and W-203's two calls.
+/// Answers any call on any areas as document 01 says, in form 1 as W-202, W-206 and W-207 amend it, and W-203's two calls.
 pub struct Expectation;
 
 impl Store for Expectation {
@@ -107,8 +107,8 @@ fn put_values(outputs: &mut Outputs, values: &[u64]) {
     outputs.answer = values.iter().flat_map(|value| value.to_le_bytes()).collect();
 }
 
-/// The records that a search finds, unless a ground before 12 is against it.
-pub fn found(form: Form, areas: &Areas, slots: u64, window: &Window) -> Outcome<Vec<Record>> {
+/// What a search finds, unless a ground before 12 is against it.
+pub fn found(form: Form, areas: &Areas, slots: u64, window: &Window) -> Outcome<Found> {
     let state = checked_state(form, areas, slots)?;
     let Window { t1, t2, k1, k2 } = *window;
     refuse_if(time_past_limit(t1) || time_past_limit(t2), TIME_LIMIT)?;
@@ -118,12 +118,14 @@ pub fn found(form: Form, areas: &Areas, slots: u64, window: &Window) -> Outcome<
 }
 
 fn search(form: Form, areas: &Areas, slots: u64, window: &Window, outputs: &mut Outputs) -> Outcome<()> {
-    let found = found(form, areas, slots, window)?;
-    refuse_if(found.len() > outputs.rows.len() / ROW_BYTES, TOO_MANY_ROWS)?;
-    for (row, record) in outputs.rows.chunks_mut(ROW_BYTES).zip(&found) {
+    let Found { records, pages_read } = found(form, areas, slots, window)?;
+    refuse_if(records.len() > outputs.rows.len() / ROW_BYTES, TOO_MANY_ROWS)?;
+    for (row, record) in outputs.rows.chunks_mut(ROW_BYTES).zip(&records) {
         row.copy_from_slice(record);
     }
-    put_values(outputs, &[found.len() as u64]);
+    let PagesRead { header, bloom, tree } = pages_read;
+    let counts = [records.len(), header, bloom, tree].map(|count| count as u64);
+    put_values(outputs, &counts[..1 + form.page_counts()]);
     Ok(())
 }
 
@@ -131,7 +133,7 @@ fn search(form: Form, areas: &Areas, slots: u64, window: &Window, outputs: &mut 
 fn counts(form: Form, areas: &Areas, slots: u64, t1: u64, t2: u64) -> Outcome<Vec<u64>> {
     let all_loads = Window { t1, t2, k1: LEAST_LOAD, k2: GREATEST_LOAD };
     let mut counts = vec![0; form.counts()];
-    for record in found(form, areas, slots, &all_loads)? {
+    for record in found(form, areas, slots, &all_loads)?.records {
         counts[plate_of(form, load_of(&record) as i32)] += 1;
     }
     Ok(counts)

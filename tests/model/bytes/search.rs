@@ -1,4 +1,5 @@
-//! Document 01, "Search", and as W-202 amends it: the open segment, the skip walk, level 1, and the matches of each.
+//! Document 01, "Search", and as W-202 amends it: the open segment, the skip walk, level 1, and the matches of each; W-207's
+//! counts of the pages read.
 use super::bloom;
 use super::bucket::{Bucket, NO_CHILD};
 use super::header::Header;
@@ -9,13 +10,38 @@ use crate::limits::*;
 use script::areas::{Areas, PAGE_BYTES};
 use script::calls::Window;
 use script::form::Form;
+use std::collections::BTreeSet;
 
-/// What a search reads, and the serial of the header read last.
+const BUCKETS_PER_PAGE: usize = PAGE_BYTES / BUCKET_BYTES;
+
+/// What a search reads, the serial of the header read last, and the pages read so far.
 struct Reader<'a> {
     areas: &'a Areas,
     state: &'a State,
     slots: u64,
     serial_before: u32,
+    pages_read: PagesRead,
+}
+
+/// "the number of header pages loaded while it finds the newest closed segment" and "the distinct Bloom and tree pages that
+/// hold a bit tried or a bucket visited" of the closed segments from that one on (W-207)
+#[derive(Clone, Copy, Default)]
+pub struct PagesRead {
+    pub header: usize,
+    pub bloom: usize,
+    pub tree: usize,
+}
+
+pub struct Found {
+    /// By serial and then position.
+    pub records: Vec<Record>,
+    pub pages_read: PagesRead,
+}
+
+/// The records of one segment, by position, and the buckets visited.
+struct Matches {
+    records: Vec<Record>,
+    visited: Vec<usize>,
 }
 
 pub type Record = [u8; ROW_BYTES];
@@ -24,9 +50,8 @@ pub fn load_of(record: &Record) -> i64 {
     i64::from(u32_at(record, 8)) - LOAD_SHIFT
 }
 
-/// The records found, by serial and then position.
-pub fn find(areas: &Areas, state: &State, slots: u64, window: &Window) -> Outcome<Vec<Record>> {
-    let mut reader = Reader { areas, state, slots, serial_before: state.open };
+pub fn find(areas: &Areas, state: &State, slots: u64, window: &Window) -> Outcome<Found> {
+    let mut reader = Reader { areas, state, slots, serial_before: state.open, pages_read: PagesRead::default() };
     let mut newest_first = Vec::new();
     let has_open_lifts = state.count > 0;
     if has_open_lifts {
@@ -43,7 +68,7 @@ pub fn find(areas: &Areas, state: &State, slots: u64, window: &Window) -> Outcom
             pointer = header.pointers[0];
         }
     }
-    Ok(newest_first.into_iter().rev().flatten().collect())
+    Ok(Found { records: newest_first.into_iter().rev().flatten().collect(), pages_read: reader.pages_read })
 }
 
 /// "until a start ≤ t1 has been done"; in form 1 "A search goes on while a segment's start, the open one's included, is at
@@ -63,12 +88,14 @@ impl Reader<'_> {
         Ok(header)
     }
 
-    /// Level 4 down to 1, on while the pointer is live and above t2; then the level 1 pointer.
+    /// Level 4 down to 1, on while the pointer is live and above t2; then the level 1 pointer. Counted is "each segment it
+    /// moves onto because its start is after t2" (W-207), so not the one found.
     fn walk_to(&mut self, t2: u64) -> Outcome<Pointer> {
         let mut pointers = self.state.heads;
         for level in (0..4).rev() {
             while self.state.is_live(&pointers[level]) && pointers[level].time > t2 {
                 pointers = self.load_header(pointers[level])?.pointers;
+                self.pages_read.header += 1;
             }
         }
         Ok(pointers[0])
@@ -84,19 +111,32 @@ impl Reader<'_> {
             record_in(page, position)
         };
         let tree = &self.areas.nor[..TREE_BYTES];
-        matches(tree, state.buckets.into(), state.count.into(), window, record)
+        Ok(matches(tree, state.buckets.into(), state.count.into(), window, record)?.records)
     }
 
-    fn closed_matches(&self, header: &Header, slot: usize, window: &Window) -> Outcome<Vec<Record>> {
-        let misses = header.high < window.k1.into() || header.low > window.k2.into();
-        let nand = &self.areas.nand;
-        if misses || (window.k1 == window.k2 && bloom::rules_out(nand, slot, header.sections, window.k1)) {
+    fn closed_matches(&mut self, header: &Header, slot: usize, window: &Window) -> Outcome<Vec<Record>> {
+        if self.is_passed_over(header, slot, window) {
             return Ok(Vec::new());
         }
+        let nand = &self.areas.nand;
         let tree_pages = (TREE_PAGE..TREE_PAGE + TREE_BYTES / PAGE_BYTES).map(|page| page_of(nand, slot, page));
         let tree: Vec<u8> = tree_pages.flatten().copied().collect();
         let record = |position: usize| record_in(page_of(nand, slot, position / 16), position);
-        matches(&tree, header.buckets, header.count, window, record)
+        let Matches { records, visited } = matches(&tree, header.buckets, header.count, window, record)?;
+        let pages: BTreeSet<usize> = visited.iter().map(|bucket| bucket / BUCKETS_PER_PAGE).collect();
+        self.pages_read.tree += pages.len();
+        Ok(records)
+    }
+
+    /// "if its load span misses the range or, for equal loads, if some hash bit is clear in all sections"
+    fn is_passed_over(&mut self, header: &Header, slot: usize, window: &Window) -> bool {
+        let misses = header.high < window.k1.into() || header.low > window.k2.into();
+        if misses || window.k1 != window.k2 {
+            return misses;
+        }
+        let tried = bloom::try_bits(&self.areas.nand, slot, header.sections, window.k1);
+        self.pages_read.bloom += tried.pages.len();
+        tried.rules_out
     }
 }
 
@@ -104,18 +144,20 @@ fn record_in(page: &[u8], position: usize) -> Record {
     page[position % 16 * ROW_BYTES..][..ROW_BYTES].try_into().unwrap()
 }
 
-/// The records of one segment in the window, by position.
+/// The records of one segment in the window.
 fn matches(
     tree: &[u8], buckets: usize, count: usize, window: &Window, record: impl Fn(usize) -> Record,
-) -> Outcome<Vec<Record>> {
+) -> Outcome<Matches> {
     let (k1, k2) = (i64::from(window.k1), i64::from(window.k2));
     let mut is_match = [false; SEGMENT_LIFTS];
     let mut is_reached = [false; SEGMENT_BUCKETS];
+    let mut visited = Vec::new();
     is_reached[0] = true;
     for number in 0..buckets {
         if !is_reached[number] {
             continue;
         }
+        visited.push(number);
         let bucket = Bucket::read(tree, number, buckets, count)?;
         if let Some(mid) = bucket.mid {
             let taken = [(bucket.left, mid >= k1), (bucket.right, mid < k2)];
@@ -129,5 +171,6 @@ fn matches(
         }
     }
     let in_window = |record: &Record| (window.t1..=window.t2).contains(&u64_at(record, 0));
-    Ok((0..count).filter(|position| is_match[*position]).map(record).filter(in_window).collect())
+    let records = (0..count).filter(|position| is_match[*position]).map(record).filter(in_window).collect();
+    Ok(Matches { records, visited })
 }

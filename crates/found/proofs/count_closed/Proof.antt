@@ -1,27 +1,40 @@
 -- `found::count_closed` meets its contract: what is counted and what is left come to the whole.
 use mathlib.Core.Path.{refl}
 use Rattle.skiplist.specs.Skip.{serialsFrom}
-use Rattle.found.specs.Inner.Turns.{rowsAfter, countOf}
+use Rattle.found.specs.Inner.Turns.{countAfter}
 use Rattle.found.proofs.Counts.{CountGoes, count-again, count-over}
 use native.Mathlib.Omega.{arith}
 use Rattle.found.proofs.count_closed.Statement.{statement}
 use Rattle.found.proofs.count_closed.Tie as tie
 
 abbrev Inv-loop : tie.InvT-loop
-Inv-loop nand slots oldest q total r₀ r =
+Inv-loop nand slots oldest q r₀ r =
     let live = serialsFrom oldest in
-    CountGoes nand slots live q (countOf total (rowsAfter nand slots live q (r₀ .c))) (r₀ .c .before) r
+    CountGoes nand slots live q (countAfter nand slots live q (r₀ .n) (r₀ .c)) (r₀ .c .before) r
 
 abbrev μ-loop : tie.MeasureT-loop
-μ-loop nand slots oldest q total r₀ r = r .c .before
+μ-loop nand slots oldest q r₀ r = r .c .before
 
 loop-holds : tie.Need-loop-holds Inv-loop μ-loop
-loop-holds c = record { busy = refl; good = refl; sound = c .before .pre .1; leads = refl; room = omega arith }
+loop-holds c =
+    let p = c .before .pre .1 in
+    record {
+      busy = refl;
+      good = p .1;
+      sound = p .0;
+      leads = refl;
+      room = omega arith;
+      bloom-room = omega (arith, p .2);
+      tree-room = omega (arith, p .3);
+    }
 
 count-on-requires : tie.Need-count-on-requires Inv-loop μ-loop
 count-on-requires c κs =
     let i = c .loop .inv in
-    ((c .before .before .pre .0 .0, c .before .before .pre .0 .1, omega arith), (i .sound, (i .busy, i .good)))
+    let p = c .before .before .pre .0 in (
+      (p .0, p .1, record { lifts = omega (arith, i .room, p .2); bloom = omega (arith, i .bloom-room); tree = omega (arith, i .tree-room) }),
+      (i .sound, (i .busy, i .good)),
+    )
 
 returns : tie.Need-returns Inv-loop μ-loop
 returns c =

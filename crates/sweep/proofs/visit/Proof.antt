@@ -4,16 +4,18 @@ use mathlib.Core.Bool.{true}
 use mathlib.Core.List.{List}
 use Prim.Native.Nat.{ℕ, _-_, _^_, _<_}
 use native.Mathlib.Omega.{arith}
+use lib.Bits.{bitOr}
 use lib.ListN.{length}
 use borrow.Author.Tests.{not-true, not-false}
 use Rattle.codec.proofs.Areas.{length-part}
 use Rattle.tree.specs.Place.{bucketStart}
 use Rattle.tree.specs.Reading.{bucketAt, entriesFrom}
 use Rattle.tree.specs.Inner.Seen.{seenNode}
+use Rattle.sweep.specs.declared.Turn.{Turn}
 use Rattle.sweep.specs.Inner.Turns.{codesOf, timesOf, withEntries}
 use Rattle.tree.proofs.Starts.{bucket-start}
 use Rattle.sweep.proofs.Mask.{Low, lowest-due}
-use Rattle.sweep.proofs.Visits.{Opened, opened, turn-spoilt, turn-opens, turn-next, due-after}
+use Rattle.sweep.proofs.Visits.{Opened, opened, turn-spoilt, turn-opens, turn-pages, due-after}
 use borrow.Author.Needs.{needs}
 use Rattle.sweep.proofs.visit.Statement.{statement}
 use Rattle.sweep.proofs.visit.Tie as tie
@@ -48,11 +50,11 @@ seen c =
     c .node-in .ensures
     ∙ ap (λ (s : List ℕ). seenNode s (d .before .lowest .result) (a .g .buckets) (a .g .count)) (c .before .bucket-of .ensures)
 
-opens : (c : tie.Else1) → let d = c .before .before .before in
-    Opened (c .before .before .bucket-of .result .now) (start d .args .g .count) (c .before .node-in .result)
+opens : (c : tie.Else1) → let n = c .before .before .before .before in
+    Opened (n .before .bucket-of .result .now) (start (n .before .before) .args .g .count) (n .node-in .result)
 opens c =
-    let few = start (c .before .before .before) .pre .0 .few in
-    opened _ _ _ _ _ few (c .before .node-in .ensures) (not-false _ (c .if1 .left))
+    let n = c .before .before .before .before in
+    opened _ _ _ _ _ (start (n .before .before) .pre .0 .few) (n .node-in .ensures) (not-false _ (c .if1 .left))
 
 lowest-requires : tie.Need-lowest-requires
 lowest-requires c κs = search needs
@@ -69,15 +71,26 @@ bucket-of-requires c κs = omega (arith, bucket-start (c .before .lowest .result
 node-in-requires : tie.Need-node-in-requires
 node-in-requires c κs = omega (arith, bytes c)
 
+page-of-requires : tie.Need-page-of-requires
+page-of-requires c κs = search needs
+
+power-requires : tie.Need-power-requires
+power-requires c κs =
+    let d = c .before .before .before in
+    omega (arith, c .page-of .ensures, below d, start d .pre .0 .few)
+
 returns : tie.Need-returns
 returns c =
-    let d = c .before .before .before in
+    let node = c .before .before .before .before in
+    let d = node .before .before in
     let a = start d .args in
     let l = low d in (
-      turn-next (a .tree .now) (a .lifts .now) (a .tail .now) (a .g) (a .r) _ (a .t) _ (below d) (l .least) (λ j e. l .above j e .0)
-          (turn-spoilt (a .tree .now) (a .lifts .now) (a .tail .now) (a .g) (a .r) _ (a .t) _ (seen (c .before)) (start d .pre .1 .0) (l .here)
-          (not-true _ (c .if1 .taken)) _ refl),
-      (λ j e. start d .pre .1 .2 j (l .above j e .1), rw (← d .before .lowest .ensures .0) (λ j e. l .above j e .0)),
+      turn-spoilt (a .tree .now) (a .lifts .now) (a .tail .now) (a .g) (a .r) _ (a .t) _ (seen node) (below d) (l .least) (l .here)
+          (start d .pre .1 .0) (not-true _ (c .if1 .taken)) _ refl,
+      (
+        (λ j e. start d .pre .1 .2 j (l .above j e .1), rw (← d .before .lowest .ensures .0) (λ j e. l .above j e .0)),
+        λ e. let z : _≡_ {A = ℕ} 0 1 = cc in absurd (omega arith),
+      ),
     )
 
 with-kids-requires : tie.Need-with-kids-requires
@@ -87,13 +100,13 @@ entries-requires : tie.Need-entries-requires
 entries-requires c κs =
     let e = c .before in
     let o = opens e in
-    let held = start (e .before .before .before) .pre .0 in
-    ((omega (arith, bytes (e .before .before)), o .used), (o .positions, held .records))
+    let b = e .before .before .before .before .before in
+    ((omega (arith, bytes b), o .used), (o .positions, start (b .before) .pre .0 .records))
 
 returns-2 : tie.Need-returns-2
 returns-2 c =
     let kids = c .before .before in
-    let node = kids .before .before in
+    let node = kids .before .before .before .before .before in
     let d = node .before .before in
     let a = start d .args in
     let l = low d in
@@ -101,14 +114,21 @@ returns-2 c =
     let codes = codesOf (a .lifts .now) (a .tail .now) (a .g) in
     let times = timesOf (a .lifts .now) (a .tail .now) (a .g) in
     let after = due-after _ (a .g .buckets) _ _ _ (node .node-in .ensures) good (a .r .k1) (a .r .k2) _ _ (kids .with-kids .ensures)
-    (λ j e. (l .above j e .0, start d .pre .1 .2 j (l .above j e .1))) in (
-      turn-next (a .tree .now) (a .lifts .now) (a .tail .now) (a .g) (a .r) _ (a .t) _ (below d) (l .least) (λ j e. after j e .0)
-          (turn-opens (a .tree .now) (a .lifts .now) (a .tail .now) (a .g) (a .r) _ (a .t) _ (seen node) (start d .pre .1 .0) (l .here)
-          good _ _ _ (l .others) (kids .with-kids .ensures)
+    (λ j e. (l .above j e .0, start d .pre .1 .2 j (l .above j e .1))) in
+    let power = kids .before .before .before in
+    let found = c .before .entries .result in
+    let next : Turn = record { good = found .good; due = kids .with-kids .result; set = found .set; read = bitOr (a .t .read) (power .power .result) } in (
+      turn-opens (a .tree .now) (a .lifts .now) (a .tail .now) (a .g) (a .r) _ (a .t) _ (seen node) (below d) (l .least) (l .here)
+          _ _ (l .others) (kids .with-kids .ensures) (λ j e. after j e .0) (start d .pre .1 .0) good _
           (c .before .entries .ensures
           ∙ ap (λ (s : List ℕ). withEntries codes times (a .r) (entriesFrom s 13 0) (record { good = true; set = a .t .set }))
-          (node .before .bucket-of .ensures))),
-      (λ j e. after j e .1, rw (← d .before .lowest .ensures .0) (λ j e. after j e .0)),
+          (node .before .bucket-of .ensures)) _,
+      (
+        (λ j e. after j e .1, rw (← d .before .lowest .ensures .0) (λ j e. after j e .0)),
+        λ e. turn-pages (a .tree .now) (a .lifts .now) (a .tail .now) (a .g) (a .r) _ (a .t) _ (seen node) (below d) (l .least) (l .here)
+            _ _ (l .others) (kids .with-kids .ensures) (λ j e. after j e .0) next refl
+            (ap (bitOr (a .t .read)) (power .power .ensures ∙ ap (λ (n : ℕ). 2 ^ n) (power .before .page-of .ensures))),
+      ),
     )
 
 pub visit-spec : {M : Type 1} → statement M
@@ -120,6 +140,8 @@ visit-spec =
     without-lowest-requires
     bucket-of-requires
     node-in-requires
+    page-of-requires
+    power-requires
     returns
     with-kids-requires
     entries-requires

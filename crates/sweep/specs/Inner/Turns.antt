@@ -1,15 +1,17 @@
 -- The turns of the code's loops over buckets and entries. Assumes nothing.
 use mathlib.Core.Path.{_≡_}
-use mathlib.Core.Bool.{Bool, true, cond, _&&_}
+use mathlib.Core.Bool.{Bool, true, cond, _&&_, _||_}
 use mathlib.Core.Option.{Option}
-use mathlib.Core.List.{List, [], _∷_}
+use mathlib.Core.List.{List, [], _∷_, map}
 use Prim.Native.Nat.{ℕ, _<_}
 use lib.Dec.{eqb}
+use Rattle.bitset.specs.Set.{elem}
 use Rattle.bitset.specs.Inner.Words.{bit, insertIn}
 use Rattle.lift.specs.Rows.{timeIn, codeIn}
 use Rattle.tree.specs.Rules.{Entry}
 use Rattle.tree.specs.Search.{within}
-use Rattle.tree.specs.Sweep.{sweepFrom}
+use Rattle.tree.specs.Place.{bucketPage}
+use Rattle.tree.specs.Sweep.{visitedFrom, gathered}
 use Rattle.sweep.specs.declared.Records.{Records}
 use Rattle.sweep.specs.declared.Range.{Range}
 use Rattle.sweep.specs.declared.Sweep.{Sweep}
@@ -59,8 +61,18 @@ withEntries codes times r (e ∷ es) s = withEntries codes times r es (withEntry
 abbrev pub leadsTo : Option (List ℕ) → Turn → Sweep
 leadsTo rest t = cond (t .good) (sweptFrom (t .set .words) rest) noneSwept
 
--- what it comes to, with the n buckets from b on that are left
-unfoldable pub onward : List ℕ → List ℕ → List ℕ → Records → Range → ℕ → ℕ → Turn → Sweep
-onward tree lifts tail g r n b t =
+-- the buckets that are left, those due and those that they lead to
+abbrev pub left : List ℕ → Records → Range → Turn → List ℕ
+left tree g r t = visitedFrom tree (r .k1) (r .k2) (g .buckets) 0 (isDue (t .due))
+
+-- what it comes to with them
+unfoldable pub onward : List ℕ → List ℕ → List ℕ → Records → Range → Turn → Sweep
+onward tree lifts tail g r t =
     leadsTo (passingOf (timelyAt lifts tail g r)
-    (sweepFrom tree (g .buckets) (g .count) (codesOf lifts tail g) (r .k1) (r .k2) n b (isDue (t .due)))) t
+    (gathered tree (g .buckets) (g .count) (codesOf lifts tail g) (r .k1) (r .k2) (left tree g r t))) t
+
+-- ---- pages
+
+-- whether page j holds a bucket that was visited or is left
+abbrev pub readOnward : List ℕ → Records → Range → Turn → ℕ → Bool
+readOnward tree g r t j = isDue (t .read) j || elem j (map bucketPage (left tree g r t))

@@ -1,34 +1,13 @@
--- `visit::closed_matches` meets its contract: the matches in the slot's pages.
-use Rattle.visit.proofs.Areas.{closed-held, closed-are}
+-- `visit::closed_matches` meets its contract: what the sweep found.
 use borrow.Author.Needs.{needs}
 use Rattle.visit.proofs.closed_matches.Statement.{statement}
 use Rattle.visit.proofs.closed_matches.Tie as tie
 
-closed-lifts-requires : tie.Need-closed-lifts-requires
-closed-lifts-requires c κs = search needs
-
-pages-of-requires : tie.Need-pages-of-requires
-pages-of-requires c κs = search needs
-
-closed-records-requires : tie.Need-closed-records-requires
-closed-records-requires c κs = search needs
-
-matches-requires : tie.Need-matches-requires
-matches-requires c κs =
-    closed-held _ _ (c .before .before .before .before .pre) _ _ (c .before .pages-of .ensures)
-    (c .before .before .closed-lifts .ensures) _ (c .closed-records .ensures)
+closed-sweep-requires : tie.Need-closed-sweep-requires
+closed-sweep-requires c κs = search needs
 
 returns : tie.Need-returns
-returns c =
-    closed-are _ _ (c .before .before .before .before .before .pre) _ _ (c .before .before .pages-of .ensures)
-    (c .before .before .before .closed-lifts .ensures) _ (c .before .closed-records .ensures) _ _ (c .matches .ensures)
+returns c = c .before .closed-sweep .ensures .0
 
 pub closed-matches-spec : {M : Type 1} → statement M
-closed-matches-spec =
-    tie.close
-    (tie.spec
-    closed-lifts-requires
-    pages-of-requires
-    closed-records-requires
-    matches-requires
-    returns)
+closed-matches-spec = tie.close (tie.spec closed-sweep-requires returns)

@@ -9,7 +9,7 @@ sweep-tree-requires : tie.Need-sweep-tree-requires
 sweep-tree-requires c κs = search needs
 
 returns : tie.Need-returns
-returns c = c .sweep-tree .ensures ∙ matched _ _ _ _ _ (c .before .before .before .before .pre .records .few)
+returns c = (c .sweep-tree .ensures .0 ∙ matched _ _ _ _ _ (c .before .before .before .before .pre .records .few), c .sweep-tree .ensures .1)
 
 pub matches-spec : {M : Type 1} → statement M
 matches-spec = tie.close (tie.spec sweep-tree-requires returns)

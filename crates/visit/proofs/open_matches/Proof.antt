@@ -21,9 +21,10 @@ matches-requires c κs =
 
 returns : tie.Need-returns
 returns c =
-    open-are _ _ _ (c .before .before .before .before .before .before .before .pre .0) _
-    (c .before .before .before .before .before .before .before .pre .1) _ _ (c .before .before .nor-tree .ensures)
-    (c .before .before .before .open-lifts .ensures) _ (c .before .open-records .ensures) _ _ (c .matches .ensures)
+    let m = c .before in
+    open-are _ _ _ (m .before .before .before .before .before .before .before .pre .0) _
+    (m .before .before .before .before .before .before .before .pre .1) _ _ (m .before .before .nor-tree .ensures)
+    (m .before .before .before .open-lifts .ensures) _ (m .before .open-records .ensures) _ _ (m .matches .ensures .0)
 
 pub open-matches-spec : {M : Type 1} → statement M
 open-matches-spec =

@@ -3,7 +3,8 @@ use mathlib.Core.Path.{_≡_, refl, _∙_}
 use Prim.Native.Nat.{suc}
 use Rattle.skiplist.specs.Skip.{serialsFrom}
 use Rattle.walk.specs.Inner.Placed.{PlaceSound, walkAt, hopsLeft, walkedOn}
-use Rattle.walk.proofs.Places.{level-done, next-inside, next-leads, next-falls, next-sound}
+use Rattle.walk.proofs.Places.{level-done, next-few, next-inside, next-leads, next-falls, next-sound}
+use native.Mathlib.Omega.{arith}
 use borrow.Author.Needs.{needs}
 use Rattle.walk.proofs.along.Statement.{statement}
 use Rattle.walk.proofs.along.Tie as tie
@@ -38,32 +39,45 @@ returns c =
 cast-loaded : tie.Need-cast-loaded Inv-loop μ-loop
 cast-loaded c = search needs
 
+add-loaded : tie.Need-add-loaded Inv-loop μ-loop
+add-loaded c =
+    let at = c .before .before .before .before .before .before .before in
+    let a = at .before .before .args in
+    omega (
+      arith,
+      next-few (a .nand .now) (a .slots) (a .oldest) (a .t2) (a .heads) (a .k) (at .loop .w) _
+          (c .before .before .before .before .before .before .pointer-from .ensures) _ (c .before .before .before .before .before .is-live .ensures)
+          (c .before .before .if1 .left) (at .loop .inv .0),
+    )
+
 loaded-requires : tie.Need-loaded-requires Inv-loop μ-loop
 loaded-requires c κs =
-    let at = c .before .before .before .before .before .before in
+    let at = c .before .before .before .before .before .before .before in
     let s = at .before .before in
     let a = s .args in
     next-inside (a .nand .now) (a .slots) (a .oldest) (a .t2) (a .heads) (a .k) (at .loop .w) _
-    (c .before .before .before .before .before .pointer-from .ensures) _ (c .before .before .before .before .is-live .ensures) (c .before .if1 .left)
+    (c .before .before .before .before .before .before .pointer-from .ensures) _ (c .before .before .before .before .before .is-live .ensures) (c .before .before .if1 .left)
     (s .pre .0 .0) (at .loop .inv .0)
 
 loop-less : tie.Need-loop-less Inv-loop μ-loop
 loop-less c =
-    let at = c .before .before .before .before .before .before .before in
+    let l = c .before in
+    let at = l .before .before .before .before .before .before .before in
     let a = at .before .before .args in
     next-falls (a .nand .now) (a .slots) (a .oldest) (a .t2) (a .heads) (a .k) (at .loop .w) _
-    (c .before .before .before .before .before .before .pointer-from .ensures) _ (c .before .before .before .before .before .is-live .ensures) (c .before .before .if1 .left) _ (c .loaded .ensures)
+    (l .before .before .before .before .before .before .pointer-from .ensures) _ (l .before .before .before .before .before .is-live .ensures) (l .before .before .if1 .left) _ (c .loaded .ensures)
 
 loop-again : tie.Need-loop-again Inv-loop μ-loop
 loop-again c =
-    let at = c .before .before .before .before .before .before .before in
+    let l = c .before in
+    let at = l .before .before .before .before .before .before .before in
     let s = at .before .before in
     let a = s .args in (
       next-sound (a .nand .now) (a .slots) (a .oldest) (a .t2) (a .heads) (a .k) (at .loop .w) _
-          (c .before .before .before .before .before .before .pointer-from .ensures) _ (c .before .before .before .before .before .is-live .ensures) (c .before .before .if1 .left)
+          (l .before .before .before .before .before .before .pointer-from .ensures) _ (l .before .before .before .before .before .is-live .ensures) (l .before .before .if1 .left)
           (s .pre .0 .0) (at .loop .inv .0) _ (c .loaded .ensures),
       next-leads (a .nand .now) (a .slots) (a .oldest) (a .t2) (a .heads) (a .k) (at .loop .w) _
-          (c .before .before .before .before .before .before .pointer-from .ensures) _ (c .before .before .before .before .before .is-live .ensures) (c .before .before .if1 .left) _ (c .loaded .ensures)
+          (l .before .before .before .before .before .before .pointer-from .ensures) _ (l .before .before .before .before .before .is-live .ensures) (l .before .before .if1 .left) _ (c .loaded .ensures)
           ∙ at .loop .inv .1,
     )
 
@@ -78,6 +92,7 @@ along-spec =
     is-live-requires
     returns
     cast-loaded
+    add-loaded
     loaded-requires
     loop-less
     loop-again)

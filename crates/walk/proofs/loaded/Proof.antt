@@ -23,7 +23,7 @@ serial-in-requires c κs = page (c .before)
 returns : tie.Need-returns
 returns c =
     let a = c .before .before .before .before .args in
-    loaded-made (a .nand .now) (a .slots) (a .slot) (a .before) _ (c .before .before .pages-of .ensures) _ _
+    loaded-made (a .nand .now) (a .slots) (a .slot) (a .before) (a .moves) _ (c .before .before .pages-of .ensures) _ _
     (c .before .header-good .ensures) (c .serial-in .ensures)
 
 pub loaded-spec : {M : Type 1} → statement M

@@ -20,7 +20,8 @@ header-good-requires c κs = page c
 
 returns : tie.Need-returns
 returns c =
-    seen-spoilt _ _ _ _ _ _ (c .before .before .pages-of .ensures) _ (c .before .header-good .ensures) (c .if1 .taken)
+    let v = seen-spoilt _ _ _ _ _ _ (c .before .before .pages-of .ensures) _ (c .before .header-good .ensures) (c .if1 .taken) in
+    (v .step-is, v .bloom-is)
 
 pointer-in-requires : tie.Need-pointer-in-requires
 pointer-in-requires c κs = (page (c .before .before), omega arith)
@@ -31,8 +32,8 @@ start-in-requires c κs = page (c .before .before .before)
 serial-in-requires : tie.Need-serial-in-requires
 serial-in-requires c κs = page (c .before .before .before .before .before)
 
-is-passed-requires : tie.Need-is-passed-requires
-is-passed-requires c κs =
+pass-over-requires : tie.Need-pass-over-requires
+pass-over-requires c κs =
     let p = c .before .before .before .before .before .before in
     let s = c .before .before .before .before .before .before .before .before in (
       (s .pre .0, page p, s .pre .1),
@@ -42,10 +43,14 @@ is-passed-requires c κs =
 
 returns-2 : tie.Need-returns-2
 returns-2 c =
-    let a = c .before .before .before .before .before .before .before .before .before .before .args in
-    seen-passed _ _ _ _ _ _ (c .before .before .before .before .before .before .before .before .pages-of .ensures) _ (c .before .before .before .before .before .before .before .header-good .ensures) (c .before .before .before .before .before .before .if1 .left) _
-    (c .before .is-passed .ensures (a .slots) (a .before)) _ (c .before .before .before .before .before .pointer-in .ensures) _ _ (c .before .before .before .before .start-in .ensures)
-    (c .before .before .serial-in .ensures) (c .if2 .taken)
+    let p = c .before in
+    let g = p .before .before .before .before .before .before in
+    let a = g .before .before .before .args in
+    let is = p .pass-over .ensures (a .slots) (a .before) in
+    let v = seen-passed _ _ _ _ _ _ (g .before .pages-of .ensures) _ (g .header-good .ensures) (p .before .before .before .before .before .if1 .left) _ _
+    (is .0) (is .1) _ (p .before .before .before .before .pointer-in .ensures) _ _ (p .before .before .before .start-in .ensures)
+    (p .before .serial-in .ensures) (c .if2 .taken) in
+    (v .step-is, v .bloom-is)
 
 count-in-requires : tie.Need-count-in-requires
 count-in-requires c κs = page (c .before .before .before .before .before .before .before .before)
@@ -55,13 +60,15 @@ buckets-in-requires c κs = page (c .before .before .before .before .before .bef
 
 returns-3 : tie.Need-returns-3
 returns-3 c =
-    let a = c .before .before .before .before .before .before .before .before .before .before .before .before .args in
-    seen-searched _ _ _ _ _ _ (c .before .before .before .before .before .before .before .before .before .before .pages-of .ensures) _ (c .before .before .before .before .before .before .before .before .before .header-good .ensures)
-    (c .before .before .before .before .before .before .before .before .if1 .left) _
-    (c .before .before .before .is-passed .ensures (a .slots) (a .before)) _ (c .before .before .before .before .before .before .before .pointer-in .ensures) _ _
-    (c .before .before .before .before .before .before .start-in .ensures)
-    (c .before .before .before .before .serial-in .ensures) (c .before .before .if2 .left) _ _ (c .before .count-in .ensures)
-    (c .buckets-in .ensures)
+    let e = c .before .before in
+    let p = e .before in
+    let g = p .before .before .before .before .before .before in
+    let a = g .before .before .before .args in
+    let is = p .pass-over .ensures (a .slots) (a .before) in
+    let v = seen-searched _ _ _ _ _ _ (g .before .pages-of .ensures) _ (g .header-good .ensures) (p .before .before .before .before .before .if1 .left) _ _
+    (is .0) (is .1) _ (p .before .before .before .before .pointer-in .ensures) _ _ (p .before .before .before .start-in .ensures)
+    (p .before .serial-in .ensures) (e .if2 .left) _ _ (c .before .count-in .ensures) (c .buckets-in .ensures) in
+    (v .step-is, v .bloom-is)
 
 pub look-spec : {M : Type 1} → statement M
 look-spec =
@@ -73,7 +80,7 @@ look-spec =
     pointer-in-requires
     start-in-requires
     serial-in-requires
-    is-passed-requires
+    pass-over-requires
     returns-2
     count-in-requires
     buckets-in-requires

@@ -13,21 +13,21 @@ pointer-of-requires c κs = search needs
 
 returns : tie.Need-returns
 returns c =
-    let a = c .before .before .before .args in
+    let a = c .before .before .before .before .args in
     pointer-head (a .nand .now) (a .heads) (a .w) (a .k) _ (c .before .if1 .taken) (c .pointer-of .ensures)
 
 pages-of-requires : tie.Need-pages-of-requires
-pages-of-requires c κs = (c .before .before .pre .0 (c .if1 .left), omega arith, omega arith)
+pages-of-requires c κs = (c .before .before .before .pre .0 (c .if1 .left), omega arith, omega arith)
 
 pointer-in-requires : tie.Need-pointer-in-requires
 pointer-in-requires c κs = (
-  ap length (c .pages-of .ensures) ∙ length-part _ _ 512 (omega (arith, c .before .before .before .pre .0 (c .before .if1 .left))),
-  c .before .before .before .pre .1,
+  ap length (c .pages-of .ensures) ∙ length-part _ _ 512 (omega (arith, c .before .before .before .before .pre .0 (c .before .if1 .left))),
+  c .before .before .before .before .pre .1,
 )
 
 returns-2 : tie.Need-returns-2
 returns-2 c =
-    let a = c .before .before .before .before .args in
+    let a = c .before .before .before .before .before .args in
     pointer-there (a .nand .now) (a .heads) (a .w) (a .k) _ (c .before .before .if1 .left) _ (c .before .pages-of .ensures)
     (c .pointer-in .ensures)
 

@@ -2,13 +2,14 @@
 use mathlib.Core.Path.{_∙_}
 use Rattle.walk.proofs.Places.{heads-sound, levels-done}
 use native.Mathlib.Omega.{arith}
+use borrow.Author.Needs.{needs}
 use Rattle.walk.proofs.seek.Statement.{statement}
 use Rattle.walk.proofs.seek.Tie as tie
 
 along-requires : tie.Need-along-requires
 along-requires c κs =
     let s = c .before .before in
-    ((s .pre .0, omega arith), heads-sound _ _ _ _ (s .pre .1))
+    ((s .pre .0, omega arith), heads-sound _ _ _ _ (s .pre .1) (search needs))
 
 along-requires-2 : tie.Need-along-requires-2
 along-requires-2 c κs = ((c .before .before .before .pre .0, omega arith), c .along .ensures .1)

@@ -1,23 +1,37 @@
 -- `pieces::search_from`: a refusal for grounds 1 to 3 as given or for 4 to 6, else what the log holds.
 use mathlib.Core.Path.{_≡_, sym, ap, ap₂, _∙_}
 use mathlib.Core.Bool.{true}
+use mathlib.Core.List.{List}
+use Prim.Native.Nat.{ℕ}
 use mir.Syntax.{w32}
 use mir.ValLaws.{toZ-ofZ}
 use Rattle.lift.specs.Limits.{loadOk, stored}
 use Rattle.lift.proofs.Codes.{within-limits}
 use Rattle.bounds.specs.Grounds.{queryGround}
+use Rattle.search.specs.declared.Found.{Found}
+use Rattle.search.specs.Answers.{SearchAnswer}
 use Rattle.questions.proofs.Asked.{ground-bounds, ground-query, loads-ok, search-refused, search-done}
 use native.Mathlib.Omega.{arith}
 use borrow.Author.Needs.{needs}
 use Rattle.questions.proofs.pieces.search_from.Statement.{statement}
 use Rattle.questions.proofs.pieces.search_from.Tie as tie
 
+-- a refusal, as the code has it
+refusal : Found → List ℕ → SearchAnswer
+refusal f area = record { number = f .number; count = f .count; pages = f .pages; area = area }
+
+refused-requires : tie.Need-refused-requires
+refused-requires c κs = search needs
+
 returns : tie.Need-returns
+unfolding refusal
 returns c =
-    let a = c .before .before .before .before .before .args in
-    λ s slots j e p. search-refused (a .nand .now) (a .nor .now) s slots (a .t1) (a .t2) (a .k1) (a .k2) _ _
-    (ground-bounds (a .nand .now) (a .nor .now) s slots (a .n) j (a .t1) (a .t2) (a .k1) (a .k2) (c .if1 .taken))
-    (c .if1 .taken)
+    let n = c .before in
+    let a = n .before .before .before .before .before .args in
+    λ s slots j e p. ap (λ (f : Found). refusal f (a .area .now)) (c .refused .ensures)
+    ∙ search-refused (a .nand .now) (a .nor .now) s slots (a .t1) (a .t2) (a .k1) (a .k2) _ _
+    (ground-bounds (a .nand .now) (a .nor .now) s slots (a .n) j (a .t1) (a .t2) (a .k1) (a .k2) (n .if1 .taken))
+    (n .if1 .taken)
 
 query-ground-requires : tie.Need-query-ground-requires
 query-ground-requires c κs = search needs
@@ -30,13 +44,18 @@ judged c =
     c .query-ground .ensures ∙ ap₂ (queryGround (s .args .t1) (s .args .t2)) (toZ-ofZ w32 (s .args .k1) (s .fits .k1))
     (toZ-ofZ w32 (s .args .k2) (s .fits .k2))
 
+refused-requires-2 : tie.Need-refused-requires-2
+refused-requires-2 c κs = search needs
+
 returns-2 : tie.Need-returns-2
+unfolding refusal
 returns-2 c =
-    let n = c .before in
+    let n = c .before .before in
     let a = n .before .before .before .before .before .before .args in
-    λ s slots j e p. search-refused (a .nand .now) (a .nor .now) s slots (a .t1) (a .t2) (a .k1) (a .k2) _ _
+    λ s slots j e p. ap (λ (f : Found). refusal f (a .area .now)) (c .refused2 .ensures)
+    ∙ search-refused (a .nand .now) (a .nor .now) s slots (a .t1) (a .t2) (a .k1) (a .k2) _ _
     (ground-query (a .nand .now) (a .nor .now) s slots (a .n) j (a .t1) (a .t2) (a .k1) (a .k2) _ (omega (arith, n .before .if1 .left))
-    (judged n)) (c .if2 .taken)
+    (judged n)) (c .before .if2 .taken)
 
 -- grounds 4 to 6 do not hold
 zero : (c : tie.Else2) → c .before .query-ground .result ≡ 0
@@ -93,8 +112,10 @@ pub search-from-spec : {M : Type 1} → statement M
 search-from-spec =
     tie.close
     (tie.spec
+    refused-requires
     returns
     query-ground-requires
+    refused-requires-2
     returns-2
     stored-requires
     stored-requires-2

@@ -1,0 +1,46 @@
+-- `kept::keep_search` meets its contract: four numbers side by side, or the area as it was.
+use mathlib.Core.Path.{sym, _∙_}
+use Rattle.kept.proofs.Kept.{kept-new, kept-old, four-kept}
+use borrow.Author.Needs.{needs}
+use Rattle.kept.proofs.keep_search.Statement.{statement}
+use Rattle.kept.proofs.keep_search.Tie as tie
+
+put-u64-requires : tie.Need-put-u64-requires
+put-u64-requires c κs = search needs
+
+put-u64-requires-2 : tie.Need-put-u64-requires-2
+put-u64-requires-2 c κs = search needs
+
+put-u64-requires-3 : tie.Need-put-u64-requires-3
+put-u64-requires-3 c κs = search needs
+
+put-u64-requires-4 : tie.Need-put-u64-requires-4
+put-u64-requires-4 c κs = search needs
+
+same-length : tie.Need-same-length
+same-length c = search needs
+
+returns : tie.Need-returns
+returns c =
+    let w = c .before .before in
+    let v = w .before .before .before .before in
+    let u = v .before .before .before .before in
+    let t = u .before .before .before .before in
+    let taken = t .before .before in
+    four-kept _ _ _ _ _ _ _ _ _ (taken .before .before .pre) (t .put-u64 .ensures) (u .put-u642 .ensures) (v .put-u643 .ensures) (w .put-u644 .ensures)
+    ∙ sym (kept-new _ _ _ (taken .if1 .taken))
+
+returns-2 : tie.Need-returns-2
+returns-2 c = sym (kept-old _ _ _ (c .if1 .left))
+
+pub keep-search-spec : {M : Type 1} → statement M
+keep-search-spec =
+    tie.close
+    (tie.spec
+    put-u64-requires
+    put-u64-requires-2
+    put-u64-requires-3
+    put-u64-requires-4
+    same-length
+    returns
+    returns-2)
