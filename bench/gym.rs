@@ -48,8 +48,8 @@ impl Gym {
         Gym { random, members, day: 0 }
     }
 
-    /// The lifts of the next day: none on Sundays, else some tens of sets.
-    fn day(&mut self, lifts: &mut Vec<Lift>) {
+    /// The sets of the next day, each by a member, some minutes apart: none on Sundays, else some tens.
+    fn day(&mut self, mut set: impl FnMut(&mut Gym, usize, &mut u64)) {
         let day = self.day;
         self.day += 1;
         if day % 7 == 6 {
@@ -58,18 +58,18 @@ impl Gym {
         let mut time = day * DAY + OPENS;
         for _ in 0..self.random.within(28, 52) {
             time += self.random.within(60_000, 900_000) as u64;
-            self.set(day, &mut time, lifts);
+            let number = self.random.within(0, self.members.len() as i64 - 1) as usize;
+            set(self, number, &mut time);
         }
     }
 
     /// A set: lifts some seconds apart at one stack of plates; the cell reads up to 0.6 kg beside it. In about every other set
-    /// left and right lift at one time.
-    fn set(&mut self, day: u64, time: &mut u64, lifts: &mut Vec<Lift>) {
+    /// left and right lift at one time. The note has the member, from 1 on, then repetition and arm.
+    fn set(&mut self, number: usize, time: &mut u64, lifts: &mut Vec<Lift>) {
         let random = &mut self.random;
-        let number = random.within(0, self.members.len() as i64 - 1) as usize;
         let member = &self.members[number];
         // A member is replaced by a new one after two years.
-        let weeks = (day / 7 + 13 * number as u64) % 104;
+        let weeks = (*time / DAY / 7 + 13 * number as u64) % 104;
         let gained = member.yearly * weeks as i64 / 52;
         let plates = (member.plates + gained + random.within(-1, 1)) as i32;
         let arms = random.within(1, 2);
@@ -80,10 +80,10 @@ impl Gym {
             }
             let spread = random.within(-30, 30) + random.within(-30, 30);
             let mut note = [0; 20];
-            note[0] = number as u8;
-            note[1] = repetition as u8;
-            note[2] = arm as u8;
-            note[4..12].copy_from_slice(&random.next().to_le_bytes());
+            note[..4].copy_from_slice(&(number as u32 + 1).to_le_bytes());
+            note[4] = repetition as u8;
+            note[5] = arm as u8;
+            note[6..14].copy_from_slice(&random.next().to_le_bytes());
             lifts.push(Lift { time: *time, load: plates * PLATE + spread as i32, note });
         }
     }
@@ -92,9 +92,32 @@ impl Gym {
     pub fn lifts(&mut self, at_least: usize) -> Vec<Lift> {
         let mut lifts = Vec::with_capacity(at_least + 1_000);
         while lifts.len() < at_least {
-            self.day(&mut lifts);
+            self.day(|gym, number, time| gym.set(number, time, &mut lifts));
         }
         lifts
+    }
+
+    /// The next lifts of two machines, at least so many on each, in whole days.
+    pub fn lifts_of_two(&mut self, at_least: usize) -> [Vec<Lift>; 2] {
+        let mut lifts = [Vec::new(), Vec::new()];
+        while lifts.iter().any(|lifts| lifts.len() < at_least) {
+            self.day(|gym, number, time| gym.superset(number, time, &mut lifts));
+        }
+        lifts
+    }
+
+    /// A set on the first machine and, some seconds later, one on the second; one in six is on the first alone, one on the
+    /// second alone.
+    fn superset(&mut self, number: usize, time: &mut u64, [first, second]: &mut [Vec<Lift>; 2]) {
+        match self.random.within(0, 5) {
+            0 => self.set(number, time, first),
+            1 => self.set(number, time, second),
+            _ => {
+                self.set(number, time, first);
+                *time += self.random.within(3_000, 12_000) as u64;
+                self.set(number, time, second);
+            }
+        }
     }
 }
 

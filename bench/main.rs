@@ -13,6 +13,8 @@ mod lift;
 mod lmdb;
 mod measure;
 mod pages_read;
+mod paired_by_hand;
+mod pairs;
 mod proved;
 mod questions;
 mod report;
@@ -62,7 +64,7 @@ fn measured(slots: u64) -> (Field, Vec<Line>) {
     (field, lines)
 }
 
-/// The stack of each call on a filled store: the deepest of many.
+/// The stack of each call but pairs on a filled store: the deepest of many.
 fn depths() -> Vec<(&'static str, usize)> {
     let mut field = Field::filled(2);
     let window = everything(&field);
@@ -101,8 +103,9 @@ fn main() {
         ["report", symbols] => report(symbols),
         ["pages"] => pages_read::print(),
         ["searches"] => search_lines::print(),
+        ["pairs"] => pairs::table(&SIZES.map(pairs::measured)),
         _ => {
-            eprintln!("bench report SYMBOLS | bench pages | bench searches");
+            eprintln!("bench report SYMBOLS | bench pages | bench searches | bench pairs");
             std::process::exit(2);
         }
     }
@@ -126,7 +129,14 @@ fn report(symbols: &str) {
         "Lifts: found, counted or carried over by a call, on average. Ratios: the median of the rounds' ratios.\n"
     );
     report::table(&lines);
-    let depths = depths();
+    let paired = SIZES.map(pairs::measured);
+    println!(
+        "\nPairs of two machines, in the same manner: the store's call, a search of each whole log by the store, and"
+    );
+    println!("the pairing alone by hand on two arrays of the rows that these searches give. Store and hand agree.\n");
+    pairs::table(&paired);
+    let mut depths = depths();
+    depths.extend(paired.last().map(|line| (report::PAIRS_STACK, line.stack)));
     println!();
     report::stacks(&depths);
     report::plans(&large.sqlite_plans());

@@ -179,19 +179,27 @@ enum Side {
     InPlace,
 }
 
-/// Rounds of one call by the store and by (a), now the one first and now the other.
+/// Rounds of one call by the store and by (a).
 fn in_turns(mut run: impl FnMut(Side)) -> AllRounds {
-    let sides = [Side::Store, Side::InPlace];
-    let repeats = sides.map(|side| (ROUND_LEAST / ns_per_call(1, || run(side)).max(1.0)) as usize + 1);
+    let [store, in_place] = in_turns_of(|i| run([Side::Store, Side::InPlace][i]));
+    let mut all = AllRounds::default();
+    (all[0], all[1]) = (store, in_place);
+    all
+}
+
+/// Rounds of one call each of so many kinds, every kind in turn the first.
+pub fn in_turns_of<const N: usize>(mut run: impl FnMut(usize)) -> [Rounds; N] {
+    let repeats = std::array::from_fn::<_, N, _>(|i| (ROUND_LEAST / ns_per_call(1, || run(i)).max(1.0)) as usize + 1);
+    let mut all = [const { Rounds::new() }; N];
     let start = Instant::now();
-    let wanted = |n| n < ROUNDS_LEAST || (n < ROUNDS_MOST && start.elapsed() < TIME_FOR_ROUNDS);
-    rounds(wanted, |first| {
-        let mut ns = [None; CONTENDERS];
-        for i in (0..2).map(|i| (first + i) % 2) {
-            ns[i] = Some(ns_per_call(repeats[i], || (0..repeats[i]).for_each(|_| run(sides[i]))));
+    let mut n = 0;
+    while n < ROUNDS_LEAST || (n < ROUNDS_MOST && start.elapsed() < TIME_FOR_ROUNDS) {
+        for i in (0..N).map(|i| (n + i) % N) {
+            all[i].push(ns_per_call(repeats[i], || (0..repeats[i]).for_each(|_| run(i))));
         }
-        ns
-    })
+        n += 1;
+    }
+    all
 }
 
 fn one_round(field: &mut Field, first: usize, mut time: impl FnMut(&mut dyn Contender, usize) -> f64) -> Round {

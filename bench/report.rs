@@ -14,10 +14,15 @@ pub const CONVERSIONS: [&str; 2] = ["forward", "backward"];
 /// By the stack's place.
 pub const LOOKUPS: [&str; 2] = ["plate, twenty of 500", "plate, four of 250 over sixteen of 500"];
 
+/// The stack of pairs at this S is measured apart.
+pub const PAIRS_STACK: &str = "pairs, S = 4096";
+
 const STACK_MOST: usize = 8_192;
+/// Pairs keep a bit for each lift that the second store can hold.
+const PAIRS_STACK_MOST: usize = 196_608;
 
 /// A whole number with its thousands apart.
-fn grouped(number: f64) -> String {
+pub fn grouped(number: f64) -> String {
     let digits = format!("{number:.0}");
     let mut text = String::new();
     for (i, digit) in digits.chars().enumerate() {
@@ -29,15 +34,15 @@ fn grouped(number: f64) -> String {
     text
 }
 
-fn cell(rounds: &Rounds) -> String {
+pub fn cell(rounds: &Rounds) -> String {
     spread(rounds.clone()).map_or("-".into(), |values| {
         let [least, median, most] = values.map(grouped);
         format!("{median} ({least} to {most})")
     })
 }
 
-fn ratio_cell(line: &Line, above: usize, below: usize) -> String {
-    ratio(&line.rounds[above], &line.rounds[below]).map_or("-".into(), |r| match r {
+pub fn ratio_cell(above: &Rounds, below: &Rounds) -> String {
+    ratio(above, below).map_or("-".into(), |r| match r {
         r if r < 0.01 => format!("{r:.4}"),
         r => format!("{r:.2}"),
     })
@@ -53,7 +58,8 @@ pub fn table(lines: &[Line]) {
     println!("|---|---|---|---|---|---|---|---|---|---|---|---|");
     for line in lines {
         let cells = line.rounds.each_ref().map(cell).join(" | ");
-        let ratios = [(0, 1), (2, 0), (3, 0), (4, 0)].map(|(above, below)| ratio_cell(line, above, below));
+        let ratios = [(0, 1), (2, 0), (3, 0), (4, 0)];
+        let ratios = ratios.map(|(above, below)| ratio_cell(&line.rounds[above], &line.rounds[below]));
         let found = grouped(line.found);
         println!("| {} | {} | {found} | {cells} | {} |", slots_cell(line), line.call, ratios.join(" | "));
     }
@@ -118,8 +124,14 @@ pub fn targets(lines: &[Line], append_ratio: f64, depths: &[(&str, usize)], symb
     time_targets(lines, append_ratio);
     let heapless = symbols.split_whitespace().all(|symbol| MEMORY_FUNCTIONS.contains(&symbol));
     target("no heap: the archive calls nothing outside but memory functions", symbols.trim().to_string(), heapless);
-    let deepest = depths.iter().map(|&(_, bytes)| bytes).max().expect("some calls");
-    target("a call's stack: under 8 KiB", format!("{} bytes", grouped(deepest as f64)), deepest < STACK_MOST);
+    let (pairs, others): (Vec<_>, Vec<_>) = depths.iter().partition(|(call, _)| *call == PAIRS_STACK);
+    stack_target("a call's stack: under 8 KiB, pairs apart", &others, STACK_MOST);
+    stack_target("the stack of pairs: under 192 KiB", &pairs, PAIRS_STACK_MOST);
+}
+
+fn stack_target(what: &str, depths: &[&(&str, usize)], most: usize) {
+    let deepest = depths.iter().map(|(_, bytes)| *bytes).max().expect("some calls");
+    target(what, format!("{} bytes", grouped(deepest as f64)), deepest < most);
 }
 
 /// How many times the implementation in place a call may take.

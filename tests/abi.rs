@@ -1,7 +1,7 @@
 //! The store's C interface, called with areas that have margins.
 use model::bytes::Expectation;
 use script::areas::Areas;
-use script::calls::{Call, Carry, Outputs, Store, Window};
+use script::calls::{Call, Carry, Outputs, Pairs, Store, Window};
 use script::command::Part;
 use script::form::Form;
 
@@ -46,6 +46,12 @@ mod c {
             slots: u64, old: *mut u8, old_len: usize, to_nand: *mut u8, to_nand_len: usize, to_nor: *mut u8,
             to_nor_len: usize,
         ) -> u8;
+        pub fn store_pairs(
+            first: *const u8, first_len: usize, first_nand: *const u8, first_nand_len: usize, first_nor: *const u8,
+            first_nor_len: usize, first_slots: u64, second: *const u8, second_len: usize, second_nand: *const u8,
+            second_nand_len: usize, second_nor: *const u8, second_nor_len: usize, second_slots: u64, rows: *mut u8,
+            rows_len: usize, answer: *mut u8, answer_len: usize,
+        ) -> u8;
     }
 }
 
@@ -79,6 +85,11 @@ impl Lent {
         area.copy_from_slice(self.area());
         let end = self.bytes.len() - MARGIN;
         self.bytes[..MARGIN].iter().chain(&self.bytes[end..]).all(|byte| *byte == MARGIN_BYTE)
+    }
+
+    /// Tells whether the area, which was lent to be read alone, and its margins are as they were.
+    fn is_untouched(self, area: &[u8]) -> bool {
+        self.bytes == Lent::new(area).bytes
     }
 }
 
@@ -117,6 +128,29 @@ impl Store for Library {
             nor.hand_back(&mut first.nor),
             to_state.hand_back(second.part_mut(into)),
             to_nor.hand_back(&mut second.nor),
+        ];
+        number_if(whole, number)
+    }
+
+    /// A store named twice is lent once: the library gets the same areas for both.
+    fn pairs(&mut self, pairs: &Pairs, first: &Areas, second: &Areas, outputs: &mut Outputs) -> u8 {
+        let [mut state, mut second_state] = [first, second].map(|areas| Lent::new(&areas.state));
+        let [mut nor, mut second_nor] = [first, second].map(|areas| Lent::new(&areas.nor));
+        let mut rows = Lent::new(&outputs.rows);
+        let mut answer = Lent::new(&outputs.answer);
+        let one = ReadStore { state: state.area(), nand: &first.nand, nor: nor.area(), slots: pairs.slots };
+        let slots = pairs.second_slots;
+        let other = if std::ptr::eq(first, second) {
+            ReadStore { slots, ..one }
+        } else {
+            ReadStore { state: second_state.area(), nand: &second.nand, nor: second_nor.area(), slots }
+        };
+        let number = enter_pairs(&one, &other, rows.area(), answer.area());
+        let whole = [
+            state.is_untouched(&first.state) && nor.is_untouched(&first.nor),
+            second_state.is_untouched(&second.state) && second_nor.is_untouched(&second.nor),
+            rows.hand_back(&mut outputs.rows),
+            answer.hand_back(&mut outputs.answer),
         ];
         number_if(whole, number)
     }
@@ -167,6 +201,34 @@ pub fn enter_carry(into: Form, slots: u64, first: LentStore, second: LentStore) 
             to_nor.len(),
         )
     }
+}
+
+/// One of the two machines of a pairing, of whatever lengths.
+pub struct ReadStore<'a> {
+    pub state: &'a [u8],
+    pub nand: &'a [u8],
+    pub nor: &'a [u8],
+    pub slots: u64,
+}
+
+impl ReadStore<'_> {
+    /// State, NAND and NOR, each as the library is told it.
+    fn told(&self) -> [(*const u8, usize); 3] {
+        [self.state, self.nand, self.nor].map(|area| (area.as_ptr(), area.len()))
+    }
+}
+
+/// Has the library pair the lifts of two stores.
+pub fn enter_pairs(first: &ReadStore, second: &ReadStore, rows: &mut [u8], answer: &mut [u8]) -> u8 {
+    let (s, t) = (first.slots, second.slots);
+    let [(u, u_len), (v, v_len), (w, w_len)] = first.told();
+    let [(x, x_len), (y, y_len), (z, z_len)] = second.told();
+    let (ro, ro_len) = (rows.as_mut_ptr(), rows.len());
+    let (an, an_len) = (answer.as_mut_ptr(), answer.len());
+    let pairs = c::store_pairs;
+    // Sound if the library keeps to the areas whose lengths it is told and writes to the last two alone, which is what is
+    // under test.
+    unsafe { pairs(u, u_len, v, v_len, w, w_len, s, x, x_len, y, y_len, z, z_len, t, ro, ro_len, an, an_len) }
 }
 
 /// Calls the library with areas of whatever lengths.

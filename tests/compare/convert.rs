@@ -228,13 +228,18 @@ fn damage_unused_bytes(trial: &mut Trial, header: usize) -> Step {
     change_field(trial, Part::Nand, header + place, 1)
 }
 
+/// Where the record of a lift stands: in its segment's slot or, once in three, in the page buffer.
+pub fn lift_at(trial: &mut Trial, slot: usize, place: usize) -> (Part, usize) {
+    match trial.random.below(3) {
+        0 => (trial.state(), trial.form.page_buffer() + 32 * (place % 16)),
+        _ => (Part::Nand, slot + 32 * place),
+    }
+}
+
 /// The time of a lift becomes that of the one before, is moved by one, or by more.
 fn move_a_time(trial: &mut Trial, slot: usize) -> Step {
     let place = trial.random.pick(&[0, 0, 1, 1, 2, 14, 15, 16, 31]);
-    let (part, record) = match trial.random.below(3) {
-        0 => (trial.state(), trial.form.page_buffer() + 32 * (place % 16)),
-        _ => (Part::Nand, slot + 32 * place),
-    };
+    let (part, record) = lift_at(trial, slot, place);
     if place % 16 > 0 && trial.random.once_in(2) {
         let before = trial.areas().part(part)[record - 32..record - 24].to_vec();
         return trial.poke(part, record, &before);

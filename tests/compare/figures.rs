@@ -1,8 +1,9 @@
 //! What was compared, counted, and which ground each call can meet.
 use crate::pages_read::PagesRead;
+use crate::paired::Paired;
 use crate::stacks::ListFigures;
 use model::paper::{Closed, Said};
-use script::calls::{Call, Carry};
+use script::calls::{Call, Carry, Outputs, Pairs};
 use script::form::Form;
 
 /// How often each number was given, the last one being `N` - 1.
@@ -51,11 +52,11 @@ impl Turns {
     }
 }
 
-/// Up to 15; 20 is counted apart, since no script has an area of a wrong length.
-const NUMBERS: usize = 16;
-const CALLS: usize = Call::NAMES.len() + Carry::NAMES.len();
+/// Up to 16; 20 is counted apart, since no script has an area of a wrong length.
+const NUMBERS: usize = 17;
+const CALLS: usize = Call::NAMES.len() + Carry::NAMES.len() + 1;
 
-/// The numbers of each call, in the order of `Call::NAMES` and then of `Carry::NAMES`.
+/// The numbers of each call, in the order of `Call::NAMES` and then of `Carry::NAMES`; last those of pairs.
 const NUMBERS_OF_CALLS: [&[usize]; CALLS] = [
     &[0, 1, 2],
     &[0, 1, 2, 3, 4, 5, 7, 8, 10, 11],
@@ -67,6 +68,7 @@ const NUMBERS_OF_CALLS: [&[usize]; CALLS] = [
     &[0, 5, 15],
     &[0, 1, 2, 3, 10, 13],
     &[0, 1, 2, 3, 10, 13, 14],
+    &[0, 1, 2, 3, 10, 16],
 ];
 
 #[derive(Default)]
@@ -76,6 +78,7 @@ pub struct Figures {
     pub rows: u64,
     turns: Turns,
     pub pages_read: PagesRead,
+    pub paired: Paired,
     pub wrong_lengths: u64,
     /// Calls on stores of form 0, which the model alone answers.
     of_form_0: u64,
@@ -93,6 +96,13 @@ impl Figures {
 
     pub fn count_carry(&mut self, carry: &Carry, number: u8) {
         self.count(Call::NAMES.len() + carry.kind(), number);
+    }
+
+    pub fn count_pairs(&mut self, number: u8, with_itself: bool, outputs: &Outputs) {
+        self.count(CALLS - 1, number);
+        if number == 0 {
+            self.paired.count(with_itself, outputs);
+        }
     }
 
     fn count(&mut self, kind: usize, number: u8) {
@@ -114,7 +124,7 @@ impl Figures {
     }
 
     fn rows(&self) -> impl Iterator<Item = (&'static str, &Numbers<NUMBERS>)> {
-        Call::NAMES.into_iter().chain(Carry::NAMES).zip(&self.calls)
+        Call::NAMES.into_iter().chain(Carry::NAMES).chain([Pairs::NAME]).zip(&self.calls)
     }
 
     /// Every pair of call and number that was not met, the generator's among them.
@@ -137,5 +147,6 @@ impl Figures {
         println!("calls on stores of form 0, answered by the model, to be carried over {}", self.of_form_0);
         self.turns.print();
         self.pages_read.print();
+        self.paired.print();
     }
 }

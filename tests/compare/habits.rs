@@ -3,7 +3,7 @@ use crate::judge::Step;
 use crate::patterns::{near_plate_end, Loads, Times};
 use crate::random::Random;
 use crate::trial::Trial;
-use model::limits::{GREATEST_LOAD, LAST_TIME, LEAST_LOAD};
+use model::limits::{EVERYTHING, GREATEST_LOAD, LAST_TIME, LEAST_LOAD};
 use model::stacks::{carried, ends};
 use script::calls::{Call, Window, ROW_BYTES};
 use script::command::Field;
@@ -115,9 +115,8 @@ impl Habits {
     }
 
     pub fn search_all(&mut self, trial: &mut Trial) -> Step {
-        let window = Window { t1: 0, t2: LAST_TIME, k1: LEAST_LOAD, k2: GREATEST_LOAD };
-        let area_bytes = (trial.rows_found(self.slots, &window) + 1) * ROW_BYTES;
-        trial.call(Call::Search { slots: self.slots, window, area_bytes })
+        let area_bytes = (trial.rows_found(self.slots, &EVERYTHING) + 1) * ROW_BYTES;
+        trial.call(Call::Search { slots: self.slots, window: EVERYTHING, area_bytes })
     }
 
     /// A search of a window that ends before many segments.

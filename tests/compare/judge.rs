@@ -1,13 +1,14 @@
 //! Gives every command to the store and to the model, and compares all that they leave.
 use crate::figures::Figures;
 use crate::page_rules;
+use crate::paired;
 use crate::programs;
 use crate::reached::Reached;
-use abi::{LentStore, Library};
+use abi::{LentStore, Library, ReadStore};
 use model::bytes::Expectation;
 use model::paper::{PaperLog, Said};
 use script::areas::{Areas, World, STORES};
-use script::calls::{Call, Carry, Outputs, Store};
+use script::calls::{Call, Carry, Outputs, Pairs, Store};
 use script::command::{Command, Part};
 use script::form::Form;
 use script::hash::copy_changed;
@@ -74,6 +75,10 @@ impl Judge {
         self.expected.selected()
     }
 
+    pub fn store(&self, store: usize) -> &Areas {
+        self.expected.store(store)
+    }
+
     /// Calls the library on the present chips with other areas of any length, past the script format.
     pub fn call_with(&mut self, call: &Call, state: &mut [u8], rows: &mut [u8], answer: &mut [u8]) -> Option<u8> {
         let Areas { nand, nor, .. } = &mut self.tested.as_mut()?.world.areas;
@@ -86,8 +91,26 @@ impl Judge {
         Some(abi::enter_carry(into, slots, LentStore { state, nand, nor }, second))
     }
 
+    /// Has the library pair the present store with another one, with state areas of any length.
+    pub fn pairs_with(&self, pairs: &Pairs, states: [&[u8]; 2], outputs: &mut Outputs) -> Option<u8> {
+        let world = &self.tested.as_ref()?.world;
+        let stores = [&world.areas, world.store(pairs.second)];
+        let slots = [pairs.slots, pairs.second_slots];
+        let [first, second] = [0, 1].map(|i| {
+            let Areas { nand, nor, .. } = stores[i];
+            ReadStore { state: states[i], nand, nor, slots: slots[i] }
+        });
+        Some(abi::enter_pairs(&first, &second, &mut outputs.rows, &mut outputs.answer))
+    }
+
     pub fn compare_areas(&self, command: &Command) -> Step {
         self.compare_store(command, self.expected.selected(), "")
+    }
+
+    /// The two stores of a call, the selected one first.
+    pub fn compare_stores(&self, command: &Command, second: usize) -> Step {
+        self.compare_store(command, self.expected.selected(), "first store's ")?;
+        self.compare_store(command, second, "second store's ")
     }
 
     fn compare_store(&self, command: &Command, store: usize, of: &str) -> Step {
@@ -110,6 +133,7 @@ impl Judge {
         match command {
             Command::Call(form, call) => return self.call(command, *form, call),
             Command::Carry(carry) => return self.carry(command, carry),
+            Command::Pairs(pairs) => return self.pairs(command, pairs),
             Command::Gen(input) => return self.generate(input),
             Command::Rows | Command::Dump { .. } | Command::Changed => return Ok(()),
             Command::Use(_) => {}
@@ -200,8 +224,7 @@ impl Judge {
             if given != number {
                 return differ(command, format!("number {given}, expected {number}"));
             }
-            self.compare_store(command, first, "first store's ")?;
-            self.compare_store(command, carry.second, "second store's ")?;
+            self.compare_stores(command, carry.second)?;
         }
         let second = self.expected.store(carry.second);
         let reached = match (&self.reached[first], first_before) {
@@ -215,6 +238,31 @@ impl Judge {
             self.reached[carry.second] = reached;
         }
         Ok(())
+    }
+
+    /// Neither store changes. Where both have a paper log, these have their own word on the list.
+    fn pairs(&mut self, command: &Command, pairs: &Pairs) -> Step {
+        let mut expected_outputs = pairs.outputs();
+        let number = self.expected.pairs(pairs, &mut Expectation, &mut expected_outputs);
+        self.number = number;
+        if let Some(tested) = &self.tested {
+            let mut outputs = pairs.outputs();
+            let given = tested.world.pairs(pairs, &mut Library, &mut outputs);
+            if given != number {
+                return differ(command, format!("number {given}, expected {number}"));
+            }
+            compare_outputs(command, &outputs, &expected_outputs)?;
+            self.compare_stores(command, pairs.second)?;
+        }
+        let first = self.expected.selected();
+        self.figures.count_pairs(number, pairs.second == first, &expected_outputs);
+        let log = |store: usize| self.reached[store].as_ref().map(|reached| &reached.log);
+        let (Some(one), Some(two)) = (log(first), log(pairs.second)) else { return Ok(()) };
+        if one.form() != Form::New || two.form() != Form::New {
+            return Ok(());
+        }
+        self.figures.paired.count_by_logs();
+        paired::check(pairs, [one, two], number, &expected_outputs).or_else(|broken| differ(command, broken))
     }
 
     /// The generator works on no store; what it prints is compared.

@@ -4,7 +4,7 @@ use crate::random::Random;
 use crate::trial::{Trial, NOR_BYTES};
 use abi::LentStore;
 use script::areas::SLOT_BYTES;
-use script::calls::{Call, Carry, Outputs, Window, UNTOUCHED};
+use script::calls::{Call, Carry, Outputs, Pairs, Window, UNTOUCHED};
 use script::command::Command;
 use script::form::Form;
 
@@ -23,6 +23,18 @@ fn wrong_answer_length(right: usize, random: &mut Random) -> usize {
     let others = ANSWER_LENGTHS.into_iter().filter(|length| *length != right);
     let choices: Vec<usize> = [0, 1, right - 1, right + 1, 2 * right].into_iter().chain(others).collect();
     random.pick(&choices)
+}
+
+/// Number 20, and no area that was lent has changed.
+fn check_refusal(trial: &mut Trial, number: u8, changed: bool, lengths: &str) -> Step {
+    if number != WRONG_LENGTH {
+        return Err(Difference(format!("{lengths}: number {number}, expected {WRONG_LENGTH}")));
+    }
+    if changed {
+        return Err(Difference(format!("{lengths}: refused, but an area changed")));
+    }
+    trial.judge.figures.wrong_lengths += 1;
+    Ok(())
 }
 
 /// Tries every call once on the present areas, with one wrong length or two.
@@ -74,13 +86,8 @@ fn try_wrong_one(trial: &mut Trial, call: &Call) -> Step {
         state.len(),
         outputs.answer.len()
     );
-    if number != WRONG_LENGTH {
-        return Err(Difference(format!("{lengths}: number {number}, expected {WRONG_LENGTH}")));
-    }
-    if state != state_before || outputs != outputs_before {
-        return Err(Difference(format!("{lengths}: refused, but an area changed")));
-    }
-    trial.judge.figures.wrong_lengths += 1;
+    let changed = state != state_before || outputs != outputs_before;
+    check_refusal(trial, number, changed, &lengths)?;
     trial.judge.compare_areas(&Command::Call(Form::New, call.clone()))
 }
 
@@ -113,13 +120,36 @@ fn try_wrong_conversion(trial: &mut Trial, carry: &Carry, wrong: [bool; 2]) -> S
     let Some(number) = trial.judge.carry_with(carry.into, carry.slots, &mut state, second) else { return Ok(()) };
     let command = Command::Carry(carry.clone());
     let lengths = format!("{command} with state areas of {} and {} bytes", state.len(), to_state.len());
-    if number != WRONG_LENGTH {
-        return Err(Difference(format!("{lengths}: number {number}, expected {WRONG_LENGTH}")));
-    }
     let written = to_state.iter().chain(&nand).chain(&nor).any(|byte| *byte != UNTOUCHED);
-    if state != state_before || written {
-        return Err(Difference(format!("{lengths}: refused, but an area changed")));
-    }
-    trial.judge.figures.wrong_lengths += 1;
+    check_refusal(trial, number, state != state_before || written, &lengths)?;
     trial.judge.compare_areas(&command)
+}
+
+/// Tries the pairs of the present store and another, with one of both state areas and the answer area of a wrong length, or
+/// with more of them.
+pub fn try_wrong_pairs(trial: &mut Trial, pairs: &Pairs) -> Step {
+    let [yes, no] = [true, false];
+    let all = [[yes, no, no], [no, yes, no], [no, no, yes], [yes, yes, no], [yes, no, yes], [no, yes, yes], [yes; 3]];
+    all.iter().try_for_each(|wrong| try_wrong_pair(trial, pairs, wrong))
+}
+
+fn try_wrong_pair(trial: &mut Trial, pairs: &Pairs, wrong: &[bool; 3]) -> Step {
+    let mut outputs = pairs.outputs();
+    let mut states = [trial.areas(), trial.judge.store(pairs.second)].map(|areas| areas.state.clone());
+    for place in (0..2).filter(|place| wrong[*place]) {
+        states[place].resize(wrong_length(Form::New, &mut trial.random), 0);
+    }
+    if wrong[2] {
+        let length = wrong_answer_length(outputs.answer.len(), &mut trial.random);
+        outputs.answer.resize(length, UNTOUCHED);
+    }
+    let (states_before, outputs_before) = (states.clone(), outputs.clone());
+    let number = trial.judge.pairs_with(pairs, states.each_ref().map(|state| &state[..]), &mut outputs);
+    let Some(number) = number else { return Ok(()) };
+    let command = Command::Pairs(pairs.clone());
+    let [first, second] = states.each_ref().map(Vec::len);
+    let answer = outputs.answer.len();
+    let lengths = format!("{command} with state areas of {first} and {second} and an answer area of {answer} bytes");
+    check_refusal(trial, number, states != states_before || outputs != outputs_before, &lengths)?;
+    trial.judge.compare_stores(&command, pairs.second)
 }

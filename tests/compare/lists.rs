@@ -3,10 +3,11 @@ use crate::convert;
 use crate::habits::Habits;
 use crate::judge::Step;
 use crate::lengths;
+use crate::pairs;
 use crate::trial::Trial;
 use model::limits::LAST_TIME;
 use script::calls::Call;
-use script::command::Field;
+use script::command::{Command, Field};
 
 pub fn short_or_long(trial: &mut Trial) -> Step {
     let slots = trial.random.pick(&[2, 2, 2, 3, 3, 4, 5, 8, 64]);
@@ -31,6 +32,8 @@ pub fn on_largest_chip(trial: &mut Trial) -> Step {
         habits.ask(trial)?;
     }
     habits.search_all(trial)?;
+    pairs::beside_largest_chip(trial, slots)?;
+    trial.run(Command::Use(0))?;
     convert::there_and_back(trial, slots)
 }
 

@@ -13,6 +13,8 @@ mod lists;
 mod mids;
 mod page_rules;
 mod pages_read;
+mod paired;
+mod pairs;
 mod patterns;
 mod programs;
 mod random;
@@ -36,13 +38,14 @@ const USAGE: &str = "compare random SECONDS SEED FOLDER | compare fixed SCRIPT..
 
 type Kind = (&'static str, fn(&mut Trial) -> Step);
 const LARGE: Kind = ("large", lists::on_largest_chip);
-const KINDS: [Kind; 7] = [
+const KINDS: [Kind; 8] = [
     ("list", lists::short_or_long),
     ("damage", damage::rounds),
     ("state", states::rounds),
     ("edge", edges::rounds),
     ("convert", convert::rounds),
     ("walk", walks::rounds),
+    ("pairs", pairs::rounds),
     LARGE,
 ];
 
@@ -50,7 +53,7 @@ const KINDS: [Kind; 7] = [
 fn kind_at(place: u64) -> Kind {
     match place {
         place if place % 1000 == 100 => LARGE,
-        place => KINDS[[0, 1, 4, 0, 5, 1, 2, 0, 4, 1, 3][(place % 11) as usize]],
+        place => KINDS[[0, 1, 4, 6, 0, 5, 1, 2, 0, 6, 4, 1, 3][(place % 13) as usize]],
     }
 }
 

@@ -1,9 +1,9 @@
 //! A script under way: every command goes to the judge and into the record.
 use crate::judge::{Judge, Step};
 use crate::random::Random;
-use model::bytes::found;
+use model::bytes::{found, pairs_found};
 use script::areas::{Areas, PAGE_BYTES, SLOT_BYTES};
-use script::calls::{Call, Window};
+use script::calls::{Call, Pairs, Window};
 use script::command::{Command, Field, Fill, Part};
 use script::form::Form;
 
@@ -82,6 +82,12 @@ impl<'a> Trial<'a> {
         let mut bytes = [0; 8];
         bytes[..width].copy_from_slice(&self.areas().part(self.state())[offset..offset + width]);
         u64::from_le_bytes(bytes)
+    }
+
+    /// How many pairs the selected store has with another one, 0 if they would be refused.
+    pub fn pairs_found(&self, pairs: &Pairs) -> usize {
+        let second = self.judge.store(pairs.second);
+        pairs_found((self.areas(), pairs.slots), (second, pairs.second_slots)).map_or(0, |pairs| pairs.len())
     }
 
     /// How many rows a search would find, 0 if it would be refused.

@@ -1,10 +1,11 @@
-//! Document 01, with W-201 to W-207, read a second time: the paper log, the programs' inputs, and an expectation of every
+//! Document 01, with W-201 to W-208, read a second time: the paper log, the programs' inputs, and an expectation of every
 //! byte.
 pub mod answers;
 pub mod bytes;
 pub mod limits;
 pub mod lines;
 pub mod load_tree;
+pub mod pairs;
 pub mod paper;
 pub mod plate;
 pub mod service_page;

@@ -1,4 +1,6 @@
 //! The limits of document 01 and the numbers of the grounds.
+use script::calls::Window;
+
 pub const SLOTS: std::ops::RangeInclusive<u64> = 2..=4096;
 pub const LAST_TIME: u64 = 999_999_999_999_999;
 pub const LEAST_LOAD: i32 = -50_000;
@@ -10,6 +12,8 @@ pub const SEGMENT_LIFTS: usize = 320;
 pub const SEGMENT_BUCKETS: usize = 36;
 pub const BUCKET_ENTRIES: usize = 13;
 pub const ROW_BYTES: usize = 32;
+/// All times and all loads.
+pub const EVERYTHING: Window = Window { t1: 0, t2: LAST_TIME, k1: LEAST_LOAD, k2: GREATEST_LOAD };
 
 pub const SLOTS_OR_NAND_LENGTH: u8 = 1;
 pub const NOR_LENGTH: u8 = 2;
@@ -26,6 +30,7 @@ pub const TOO_MANY_ROWS: u8 = 12;
 pub const OTHER_FORM: u8 = 13;
 pub const NO_WAY_BACK: u8 = 14;
 pub const NO_STACK: u8 = 15;
+pub const TOO_MANY_PAIRS: u8 = 16;
 
 /// What a call gives, or the number of the first ground against it.
 pub type Outcome<T> = Result<T, u8>;

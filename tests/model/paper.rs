@@ -7,6 +7,9 @@ use crate::stacks::plate_at;
 use script::calls::{Call, Window};
 use script::form::Form;
 
+/// A lift as a search gives it.
+pub type Record = [u8; ROW_BYTES];
+
 #[derive(Clone, Debug, PartialEq)]
 pub struct Lift {
     pub time: u64,
@@ -15,7 +18,7 @@ pub struct Lift {
 }
 
 impl Lift {
-    fn record(&self) -> [u8; ROW_BYTES] {
+    pub fn record(&self) -> Record {
         let mut record = [0; ROW_BYTES];
         let stored_load = (i64::from(self.load) + LOAD_SHIFT) as u32;
         record[..8].copy_from_slice(&self.time.to_le_bytes());

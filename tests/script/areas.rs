@@ -1,5 +1,5 @@
 //! The areas that a store is lent, and the commands that change them from outside.
-use crate::calls::{Carry, Store};
+use crate::calls::{Carry, Outputs, Pairs, Store};
 use crate::command::{Command, Field, Fill, Part};
 use crate::form::Form;
 
@@ -122,6 +122,11 @@ impl World {
         }
     }
 
+    /// Has the lifts of the selected store paired with those of another one, or of itself.
+    pub fn pairs(&self, pairs: &Pairs, by: &mut impl Store, outputs: &mut Outputs) -> u8 {
+        by.pairs(pairs, &self.areas, self.store(pairs.second), outputs)
+    }
+
     /// Carries out a command that changes areas without a call; others are left to the caller.
     pub fn apply(&mut self, command: &Command) {
         match command {
@@ -147,7 +152,7 @@ impl World {
                     self.selected = kept.selected;
                 }
             }
-            Command::Call(..) | Command::Carry(_) | Command::Gen(_) => {}
+            Command::Call(..) | Command::Carry(_) | Command::Pairs(_) | Command::Gen(_) => {}
             Command::Rows | Command::Dump { .. } | Command::Changed => {}
         }
     }

@@ -3,6 +3,8 @@ use crate::areas::Areas;
 use crate::form::Form;
 
 pub const ROW_BYTES: usize = 32;
+/// "its two records side by side (64 bytes)" (W-208)
+pub const PAIR_BYTES: usize = 2 * ROW_BYTES;
 /// "a page 40 columns wide" (W-201); a line feed follows each line.
 pub const PAGE_COLUMNS: usize = 40;
 /// Result and answer areas hold this byte before a call, so that bytes left alone can be told.
@@ -87,11 +89,30 @@ impl Carry {
     }
 }
 
+/// W-208: the selected store is the first machine, the second one has an S of its own.
+#[derive(Clone, Debug, PartialEq)]
+pub struct Pairs {
+    pub slots: u64,
+    pub second: usize,
+    pub second_slots: u64,
+    pub area_bytes: usize,
+}
+
+impl Pairs {
+    pub const NAME: &'static str = "pairs";
+
+    /// Room for the pairs and, in the answer, for their count.
+    pub fn outputs(&self) -> Outputs {
+        Outputs::of_lengths(self.area_bytes, 8)
+    }
+}
+
 /// The two areas that a call writes its answer into.
 #[derive(Clone, Debug, PartialEq)]
 pub struct Outputs {
     pub rows: Vec<u8>,
-    /// Numbers of eight bytes: a search's count and pages read, a tally's counts, a plate; or the lines of a page.
+    /// Numbers of eight bytes: a search's count and pages read, a tally's counts, a plate, a count of pairs; or the lines of a
+    /// page.
     pub answer: Vec<u8>,
 }
 
@@ -101,7 +122,11 @@ impl Outputs {
             Call::Search { area_bytes, .. } => *area_bytes,
             _ => 0,
         };
-        Outputs { rows: vec![UNTOUCHED; area_bytes], answer: vec![UNTOUCHED; call.answer_bytes(form)] }
+        Outputs::of_lengths(area_bytes, call.answer_bytes(form))
+    }
+
+    fn of_lengths(rows: usize, answer: usize) -> Outputs {
+        Outputs { rows: vec![UNTOUCHED; rows], answer: vec![UNTOUCHED; answer] }
     }
 
     /// The numbers of the answer, one after another.
@@ -109,9 +134,9 @@ impl Outputs {
         self.answer.chunks_exact(8).map(|bytes| u64::from_le_bytes(bytes.try_into().unwrap()))
     }
 
-    /// How many rows a search found: the first number of its answer.
+    /// How many rows a search found, or pairs there are: the first number of the answer.
     pub fn count(&self) -> u64 {
-        self.values().next().expect("the answer of a search")
+        self.values().next().expect("an answer with a count")
     }
 }
 
@@ -122,6 +147,9 @@ pub trait Store {
 
     /// The first store is only read; it is lent to be changed so that a byte written there can be seen.
     fn carry(&mut self, carry: &Carry, first: &mut Areas, second: &mut Areas) -> u8;
+
+    /// Both stores are only read, and may be one and the same.
+    fn pairs(&mut self, pairs: &Pairs, first: &Areas, second: &Areas, outputs: &mut Outputs) -> u8;
 
     /// What the generator of W-205 prints for an input; an error tells why it does not come to its end.
     fn generate(&mut self, input: &[u8]) -> Result<Vec<u8>, String>;

@@ -1,5 +1,5 @@
 //! One line of a script as a value, and its text.
-use crate::calls::{Call, Carry, Window};
+use crate::calls::{Call, Carry, Pairs, Window};
 use crate::form::Form;
 use std::fmt;
 
@@ -16,7 +16,7 @@ impl Part {
     }
 }
 
-/// What `dump` prints bytes of: an area of the store, or the result area of the last search.
+/// What `dump` prints bytes of: an area of the store, or the result area of the last search or of the last pairs.
 #[derive(Clone, Copy, Debug, PartialEq)]
 pub enum Shown {
     Part(Part),
@@ -100,6 +100,7 @@ pub enum Command {
     Back,
     Call(Form, Call),
     Carry(Carry),
+    Pairs(Pairs),
     Gen(Vec<u8>),
     Rows,
     Dump { shown: Shown, offset: usize, length: usize },
@@ -153,6 +154,9 @@ impl fmt::Display for Command {
             Command::Back => write!(out, "back"),
             Command::Call(form, call) => write!(out, "{} {call}", command_name(*form, call)),
             Command::Carry(carry) => write!(out, "{} {} {}", carry.name(), carry.slots, carry.second),
+            Command::Pairs(Pairs { slots, second, second_slots, area_bytes }) => {
+                write!(out, "{} {slots} {second} {second_slots} {area_bytes}", Pairs::NAME)
+            }
             Command::Gen(input) if input.is_empty() => write!(out, "gen -"),
             Command::Gen(input) => write!(out, "gen {}", hex(input)),
             Command::Rows => write!(out, "rows"),

@@ -1,6 +1,6 @@
 //! Runs a script over a store and writes the lines that answer it.
 use crate::areas::{Areas, World, PAGE_BYTES, SLOT_BYTES};
-use crate::calls::{Call, Carry, Outputs, Store, ROW_BYTES};
+use crate::calls::{Call, Carry, Outputs, Pairs, Store, ROW_BYTES};
 use crate::command::{command_name, hex, Command, Shown};
 use crate::form::Form;
 use crate::hash::{copy_changed, fnv1a, KeptHash};
@@ -47,6 +47,7 @@ impl<S: Store> Interpreter<S> {
         let text = match command {
             Command::Call(form, call) => self.call(*form, call),
             Command::Carry(carry) => self.carry(carry),
+            Command::Pairs(pairs) => self.pairs(pairs),
             Command::Gen(input) => format!("gen {}\n", hex(&self.store.generate(input)?)),
             Command::Rows => self.rows(),
             Command::Dump { shown, offset, length } => {
@@ -77,6 +78,16 @@ impl<S: Store> Interpreter<S> {
         let number = self.world.carry(carry, &mut self.store);
         let second = hashes(self.world.store(carry.second), carry.into, &mut self.nand_hash);
         format!("{} {number}{second}\n", carry.name())
+    }
+
+    fn pairs(&mut self, pairs: &Pairs) -> String {
+        self.remember_chips();
+        let mut outputs = pairs.outputs();
+        let number = self.world.pairs(pairs, &mut self.store, &mut outputs);
+        let count = if number == 0 { outputs.count() } else { 0 };
+        let line = format!("{} {number} {count} {:016x}\n", Pairs::NAME, fnv1a(&outputs.rows));
+        self.result_area = outputs.rows;
+        line
     }
 
     fn call(&mut self, form: Form, call: &Call) -> String {

@@ -1,6 +1,6 @@
 //! Reads one line of a script.
 use crate::areas::STORES;
-use crate::calls::{Call, Carry, Window};
+use crate::calls::{Call, Carry, Pairs, Window};
 use crate::command::{Command, Field, Fill, Part, Shown};
 use crate::form::Form;
 use std::str::{FromStr, SplitWhitespace};
@@ -92,6 +92,11 @@ impl<'a> Words<'a> {
         Ok(Command::Carry(Carry { into, slots: self.number()?, second: self.store()? }))
     }
 
+    fn pairs(&mut self) -> Result<Command, String> {
+        let (slots, second) = (self.number()?, self.store()?);
+        Ok(Command::Pairs(Pairs { slots, second, second_slots: self.number()?, area_bytes: self.number()? }))
+    }
+
     fn command(&mut self) -> Result<Command, String> {
         match self.word()? {
             "use" => self.store().map(Command::Use),
@@ -110,6 +115,7 @@ impl<'a> Words<'a> {
             "changed" => Ok(Command::Changed),
             "forward" => self.carry(Form::New),
             "backward" => self.carry(Form::Old),
+            Pairs::NAME => self.pairs(),
             "gen" => self.input().map(Command::Gen),
             name => self.call_of_form(name),
         }

@@ -1,16 +1,16 @@
 -- The turns of the loops that print. The idea: what is left to write, written, gives what the whole gives. Assumes nothing.
 use mathlib.Core.Path.{_≡_, refl, sym, ap, ap₂, _∙_}
 use mathlib.Core.Bool.{true, false, cond}
-use mathlib.Core.List.{List, [], _∷_, _++_, append-assoc, append-nil}
+use mathlib.Core.List.{List, [], _∷_, _++_, append-assoc}
 use Prim.Native.Nat.{ℕ, zero, suc, _+_, _-_, _*_, _≤_, _<_}
 use native.Mathlib.Numerals.{add-one}
 use native.Mathlib.Omega.{arith}
 use borrow.Author.Tests.{lt-ltb, le-ltb}
 use lib.Dec.{ltb}
-use lib.ListN.{length, take, drop, getD, set, length-append, length-set, take-append-drop}
+use lib.ListN.{length, take, drop, getD, set, length-append, length-set}
 use lib.Seq.{append-snoc, take-set-le, drop-set-lt, drop-cons, getD-set-same, drop-length}
 use Rattle.codec.specs.Area.{splice}
-use Rattle.codec.proofs.Areas.{splice-next}
+use Rattle.codec.proofs.Areas.{splice-none, splice-next}
 use Rattle.lift.specs.Limits.{loadOf}
 use Rattle.lift.proofs.Differences as D
 use Rattle.answers.specs.declared.Pen.{Pen}
@@ -46,12 +46,6 @@ column-step s at (suc w) p h k =
     let e : suc w - 1 ≡ w = omega arith in
     let l : length (columnsOf w (penNext p)) ≡ w = length-columns w (penNext p) in
     rw e (splice-last s at (columnsOf w (penNext p)) (penByte p) (at + w) (omega arith) (omega arith))
-
-pub splice-none : (s : List ℕ) (at : ℕ) (p : List ℕ) → p ≡ [] → splice s at p ≡ s
-unfolding splice
-splice-none s at p e =
-    let z : at + 0 ≡ at = omega arith in
-    rw (e, z, append-nil (take at s)) (take-append-drop at s)
 
 pub columns-done : (s t : List ℕ) (at left : ℕ) (p : Pen) → left ≤ 0 → splice s at (columnsOf left p) ≡ t → s ≡ t
 unfolding columnsOf

@@ -1,21 +1,21 @@
 -- `nextOf` takes the head off the set's places: trailing zeros find the first place, and the set without it has the rest.
 use mathlib.Core.Path.{_≡_, refl, sym, ap, _∙_}
-use mathlib.Core.Bool.{Bool, true, false, cond, not, _&&_}
-use mathlib.Core.List.{List, [], _∷_}
-use Prim.Native.Nat.{ℕ, zero, suc, _+_, _-_, _*_, _/_, _%_, _^_, _<_}
+use mathlib.Core.Bool.{true, false, not, _&&_}
+use mathlib.Core.List.{List, [], _∷_, _++_}
+use Prim.Native.Nat.{ℕ, suc, _+_, _-_, _*_, _/_, _%_, _^_, _<_}
 use native.Mathlib.Decide.{decLt}
 use native.Mathlib.Omega.{arith}
 use lib.Count.{trailingZeros, trailing-le}
 use lib.Dec.{eqb}
 use lib.ListN.{getD, set}
-use borrow.Author.Tests.{eq-eqb, ne-eqb}
+use borrow.Author.Tests.{eq-eqb}
 use Rattle.bitset.specs.Set.{picked}
 use Rattle.bitset.specs.Inner.Words.{has, without, members}
 use Rattle.bitset.specs.Inner.Emptying.{nextAmong, nextOf}
 use Rattle.bitset.specs.declared.Bits.{Bits}
 use Rattle.bitset.proofs.Digits.{bit-zero, trailing-clear, lowest}
-use Rattle.bitset.proofs.Picked.{picked-same, picked-none, picked-first}
-use Rattle.bitset.proofs.Set.{has-without, members-within}
+use Rattle.bitset.proofs.Picked.{picked-same, picked-none, picked-first, picks, picked-out}
+use Rattle.bitset.proofs.Set.{has-without}
 
 -- ---- the first place by words
 
@@ -63,43 +63,24 @@ next-none b z =
 
 -- ---- what a caller goes by
 
--- the places but the first picked one are the rest
-picked-rest : (f : ℕ → Bool) (p : ℕ) (ps : List ℕ) (from n : ℕ) → picked f from n ≡ p ∷ ps
-    → picked (λ q. not (eqb q p) && f q) from n ≡ ps
-unfolding picked
-picked-rest f p ps from zero e = cc
-picked-rest f p ps from (suc n) e = go (f from) refl e (picked-rest f p ps (suc from) n)
-  where
-    g : ℕ → Bool
-    g q = not (eqb q p) && f q
+-- a place of the set
+module _ (ws : List ℕ) (p : ℕ) (xs ys : List ℕ) (e : members ws ≡ xs ++ (p ∷ ys)) where
+  pub place-in : (p < 320) × (has ws p ≡ true)
+  unfolding members
+  place-in = let h = picks (has ws) p ys 0 320 xs e in (omega (arith, h .high), h .passes)
 
-    go : (b : Bool) → f from ≡ b → cond b (from ∷ picked f (suc from) n) (picked f (suc from) n) ≡ p ∷ ps
-        → (picked f (suc from) n ≡ p ∷ ps → picked g (suc from) n ≡ ps)
-        → cond (not (eqb from p) && f from) (from ∷ picked g (suc from) n) (picked g (suc from) n) ≡ ps
-    go true t e ih =
-        let s : from ≡ p = cc in
-        let r : picked f (suc from) n ≡ ps = cc in
-        rw (eq-eqb from p s) (picked-same g f (suc from) n (λ q a u. rw (ne-eqb q p (omega arith))) ∙ r)
-    go false t e ih = rw (t, and-false (not (eqb from p))) (ih e)
-      where
-        and-false : (b : Bool) → (b && false) ≡ false
-        and-false true = refl
-        and-false false = refl
-
-first-in : (ws : List ℕ) (p : ℕ) (ps : List ℕ) → members ws ≡ p ∷ ps → (has ws p ≡ true) × (p < 320)
-first-in ws p ps e = let w = rw e at (members-within ws) in (w .passes 0 (omega arith), w .high 0 (omega arith))
-
-pub members-without : (ws : List ℕ) (p : ℕ) (ps : List ℕ) → members ws ≡ p ∷ ps → members (without ws p) ≡ ps
-unfolding members
-members-without ws p ps e =
-    picked-same (has (without ws p)) (λ q. not (eqb q p) && has ws q) 0 320 (λ q a u. has-without ws p q (first-in ws p ps e .0))
-    ∙ picked-rest (has ws) p ps 0 320 e
+  -- without it those before it and those behind it are left
+  pub members-without : members (without ws p) ≡ xs ++ ys
+  unfolding members
+  members-without =
+      picked-same (has (without ws p)) (λ q. not (eqb q p) && has ws q) 0 320 (λ q a u. has-without ws p q (place-in .1))
+      ∙ picked-out (has ws) p ys 0 320 xs e
 
 module _ (b : Bits) where
   among-step : (l : List ℕ) → members (b .words) ≡ l → nextAmong b l .found ≡ true
       → members (b .words) ≡ nextAmong b l .at ∷ members (nextAmong b l .rest .words)
   among-step [] e t = cc
-  among-step (p ∷ ps) e t = e ∙ ap (λ (r : List ℕ). p ∷ r) (sym (members-without (b .words) p ps e))
+  among-step (p ∷ ps) e t = e ∙ ap (λ (r : List ℕ). p ∷ r) (sym (members-without (b .words) p [] ps e))
 
   pub next-step : nextOf b .found ≡ true → members (b .words) ≡ nextOf b .at ∷ members (nextOf b .rest .words)
   unfolding nextOf
@@ -115,7 +96,7 @@ module _ (b : Bits) where
 
   among-below : (l : List ℕ) → members (b .words) ≡ l → nextAmong b l .at < 320
   among-below [] e = omega arith
-  among-below (p ∷ ps) e = first-in (b .words) p ps e .1
+  among-below (p ∷ ps) e = place-in (b .words) p [] ps e .0
 
   pub next-below : nextOf b .at < 320
   unfolding nextOf

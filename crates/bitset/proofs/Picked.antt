@@ -1,10 +1,12 @@
 -- The numbers of a range that a test picks: equal tests, ranges in a row, the first one, their order. By induction on the range.
-use mathlib.Core.Path.{_≡_, refl}
-use mathlib.Core.Bool.{Bool, true, false, cond}
+use mathlib.Core.Path.{_≡_, refl, ap, _∙_}
+use mathlib.Core.Bool.{Bool, true, false, cond, not, _&&_}
 use mathlib.Core.List.{List, [], _∷_, _++_}
 use Prim.Native.Nat.{ℕ, zero, suc, _+_, _-_, _≤_, _<_}
 use native.Mathlib.Omega.{arith}
+use lib.Dec.{eqb}
 use lib.ListN.{length, getD}
+use borrow.Author.Tests.{eq-eqb, ne-eqb}
 use Rattle.bitset.specs.Set.{picked}
 
 pub picked-same : (f g : ℕ → Bool) (from n : ℕ) → ((p : ℕ) → from ≤ p → p < from + n → f p ≡ g p)
@@ -90,3 +92,53 @@ picked-within f from (suc n) = go (f from) refl (picked f (suc from) n) (picked-
       rises = w .rises;
       size = omega (arith, w .size);
     }
+
+-- ---- one that is picked, and those without it
+
+pub record Picks (f : ℕ → Bool) (from n p : ℕ) : Type 0 where
+  pub low : from ≤ p
+  pub high : p < from + n
+  pub passes : f p ≡ true
+
+module _ (f : ℕ → Bool) (p : ℕ) (ys : List ℕ) where
+  pub picks : (from n : ℕ) (xs : List ℕ) → picked f from n ≡ xs ++ (p ∷ ys) → Picks f from n p
+  unfolding picked
+  picks from zero [] e = absurd (omega (arith, ap length e))
+  picks from zero (x ∷ xs) e = absurd (omega (arith, ap length e))
+  picks from (suc n) xs e = go (f from) refl xs e (picks (suc from) n)
+    where
+      later : Picks f (suc from) n p → Picks f from (suc n) p
+      later h = record { low = omega (arith, h .low); high = omega (arith, h .high); passes = h .passes }
+
+      go : (b : Bool) → f from ≡ b → (xs : List ℕ) → cond b (from ∷ picked f (suc from) n) (picked f (suc from) n) ≡ xs ++ (p ∷ ys)
+          → ((zs : List ℕ) → picked f (suc from) n ≡ zs ++ (p ∷ ys) → Picks f (suc from) n p) → Picks f from (suc n) p
+      go true t [] e ih = let s : from ≡ p = cc in record { low = omega arith; high = omega arith; passes = rw (← s) t }
+      go true t (x ∷ xs) e ih = let r : picked f (suc from) n ≡ xs ++ (p ∷ ys) = cc in later (ih xs r)
+      go false t xs e ih = later (ih xs e)
+
+  -- the places before it and those behind it are left
+  pub picked-out : (from n : ℕ) (xs : List ℕ) → picked f from n ≡ xs ++ (p ∷ ys)
+      → picked (λ q. not (eqb q p) && f q) from n ≡ xs ++ ys
+  unfolding picked
+  picked-out from zero [] e = cc
+  picked-out from zero (x ∷ xs) e = cc
+  picked-out from (suc n) xs e = go (f from) refl xs e (picked-out (suc from) n)
+    where
+      g : ℕ → Bool
+      g q = not (eqb q p) && f q
+
+      go : (b : Bool) → f from ≡ b → (xs : List ℕ) → cond b (from ∷ picked f (suc from) n) (picked f (suc from) n) ≡ xs ++ (p ∷ ys)
+          → ((zs : List ℕ) → picked f (suc from) n ≡ zs ++ (p ∷ ys) → picked g (suc from) n ≡ zs ++ ys)
+          → cond (not (eqb from p) && f from) (from ∷ picked g (suc from) n) (picked g (suc from) n) ≡ xs ++ ys
+      go true t [] e ih =
+          let s : from ≡ p = cc in
+          let r : picked f (suc from) n ≡ ys = cc in
+          rw (eq-eqb from p s) (picked-same g f (suc from) n (λ q a u. rw (ne-eqb q p (omega arith))) ∙ r)
+      go true t (x ∷ xs) e ih =
+          let s : from ≡ x = cc in
+          let r : picked f (suc from) n ≡ xs ++ (p ∷ ys) = cc in
+          let h = picks (suc from) n xs r in
+          rw (ne-eqb from p (λ i. absurd (omega (arith, h .low))), t, ih xs r, s)
+      go false t xs e ih =
+          let h = picks (suc from) n xs e in
+          rw (ne-eqb from p (λ i. absurd (omega (arith, h .low))), t) (ih xs e)

@@ -2,16 +2,18 @@
 use mathlib.Core.Path.{_≡_, refl, sym, ap, _∙_}
 use mathlib.Core.Bool.{true, cond}
 use mathlib.Core.List.{List, [], _∷_}
-use Prim.Native.Nat.{ℕ, zero, suc, _+_, _-_, _*_, _^_, _≤_, _<_}
+use Prim.Native.Nat.{ℕ, zero, suc, _+_, _-_, _*_, _/_, _%_, _^_, _≤_, _<_}
 use native.Mathlib.Omega.{arith}
-use lib.Bits.{bitOr}
 use lib.Count.{trailingZeros}
 use lib.Dec.{eqb}
 use lib.ListN.{length, getD, set}
 use borrow.Author.Count.{below-more}
+use borrow.Author.Tests.{eqb-true}
+use Rattle.bitset.specs.Inner.Words.{bit, has}
 use Rattle.bitset.specs.Inner.Emptying.{nextOf}
 use Rattle.bitset.specs.declared.Bits.{Bits}
 use Rattle.bitset.specs.declared.Next.{Next}
+use Rattle.bitset.proofs.Digits.{power-within}
 use Rattle.bitset.proofs.Emptying.{next-found}
 
 -- the words one by one
@@ -27,28 +29,35 @@ five (a ∷ b ∷ c ∷ []) h = absurd (omega arith)
 five (a ∷ b ∷ c ∷ d ∷ []) h = absurd (omega arith)
 five (a ∷ b ∷ c ∷ d ∷ e ∷ f ∷ ws) h = absurd (omega arith)
 
--- ---- a word with further bits
+-- ---- one word changed
 
-abbrev pub one : ℕ → ℕ → ℕ → ℕ → ℕ
-one i at x bits = cond (eqb i at) (bitOr x bits) x
+abbrev pub one : (ℕ → ℕ) → ℕ → ℕ → ℕ → ℕ
+one f i at x = cond (eqb i at) (f x) x
 
-spread : (a b c d e i bits : ℕ) → i < 5
-    → one i 0 a bits ∷ one i 1 b bits ∷ one i 2 c bits ∷ one i 3 d bits ∷ one i 4 e bits ∷ []
-    ≡ set (a ∷ b ∷ c ∷ d ∷ e ∷ []) i (bitOr (getD (a ∷ b ∷ c ∷ d ∷ e ∷ []) i 0) bits)
-spread a b c d e zero bits h = refl
-spread a b c d e (suc zero) bits h = refl
-spread a b c d e (suc (suc zero)) bits h = refl
-spread a b c d e (suc (suc (suc zero))) bits h = refl
-spread a b c d e (suc (suc (suc (suc zero)))) bits h = refl
-spread a b c d e (suc (suc (suc (suc (suc i))))) bits h = absurd (omega arith)
+spread : (f : ℕ → ℕ) (a b c d e i : ℕ) → i < 5
+    → one f i 0 a ∷ one f i 1 b ∷ one f i 2 c ∷ one f i 3 d ∷ one f i 4 e ∷ []
+    ≡ set (a ∷ b ∷ c ∷ d ∷ e ∷ []) i (f (getD (a ∷ b ∷ c ∷ d ∷ e ∷ []) i 0))
+spread f a b c d e zero h = refl
+spread f a b c d e (suc zero) h = refl
+spread f a b c d e (suc (suc zero)) h = refl
+spread f a b c d e (suc (suc (suc zero))) h = refl
+spread f a b c d e (suc (suc (suc (suc zero)))) h = refl
+spread f a b c d e (suc (suc (suc (suc (suc i))))) h = absurd (omega arith)
 
-pub five-insert : (ws : List ℕ) (i bits a b c d e : ℕ) → length ws ≡ 5 → i < 5 → a ≡ one i 0 (getD ws 0 0) bits
-    → b ≡ one i 1 (getD ws 1 0) bits → c ≡ one i 2 (getD ws 2 0) bits → d ≡ one i 3 (getD ws 3 0) bits
-    → e ≡ one i 4 (getD ws 4 0) bits → a ∷ b ∷ c ∷ d ∷ e ∷ [] ≡ set ws i (bitOr (getD ws i 0) bits)
-five-insert ws i bits a b c d e l h ea eb ec ed ee =
+pub five-changed : (f : ℕ → ℕ) (ws : List ℕ) (i a b c d e : ℕ) → length ws ≡ 5 → i < 5 → a ≡ one f i 0 (getD ws 0 0)
+    → b ≡ one f i 1 (getD ws 1 0) → c ≡ one f i 2 (getD ws 2 0) → d ≡ one f i 3 (getD ws 3 0)
+    → e ≡ one f i 4 (getD ws 4 0) → a ∷ b ∷ c ∷ d ∷ e ∷ [] ≡ set ws i (f (getD ws i 0))
+five-changed f ws i a b c d e l h ea eb ec ed ee =
     rw (ea, eb, ec, ed, ee)
-    (spread (getD ws 0 0) (getD ws 1 0) (getD ws 2 0) (getD ws 3 0) (getD ws 4 0) i bits h
-    ∙ ap (λ us. set us i (bitOr (getD us i 0) bits)) (five ws l))
+    (spread f (getD ws 0 0) (getD ws 1 0) (getD ws 2 0) (getD ws 3 0) (getD ws 4 0) i h
+    ∙ ap (λ us. set us i (f (getD us i 0))) (five ws l))
+
+-- the power of a place of the set is within its word
+pub place-within : (ws : List ℕ) (p i k : ℕ) → has ws p ≡ true → k ≡ 2 ^ (p % 64) → eqb (p / 64) i ≡ true → k ≤ getD ws i 0
+place-within ws p i k h e s =
+    let same : p / 64 ≡ i = eqb-true _ _ s in
+    let on : bit (getD ws (p / 64) 0) (p % 64) ≡ 1 = eqb-true _ _ h in
+    rw (e, ← same) (power-within (p % 64) (getD ws (p / 64) 0) on)
 
 -- ---- the first word that is not 0
 

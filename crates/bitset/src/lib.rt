@@ -6,7 +6,7 @@ ghost use lib.Bits.{bitOr};
 ghost use lib.ListN.{length};
 ghost use lib.Count.{trailingZeros};
 ghost use lib.Count as Count;
-ghost use Rattle.bitset.specs.Inner.Words.{emptyWords, insertIn, members};
+ghost use Rattle.bitset.specs.Inner.Words.{has, emptyWords, insertIn, without, members};
 ghost use Rattle.bitset.specs.Inner.Emptying.{nextOf};
 
 // Places 0 to 319: place p is bit p mod 64 of word p div 64.
@@ -63,6 +63,17 @@ fn with_bits(x: u64, bits: u64, here: bool) -> u64
     x
 }
 
+// The word without these bits, which it has where it is theirs.
+fn without_bits(x: u64, bits: u64, here: bool) -> u64
+    requires { ⌜ (here ≡ true → bits ≤ x) ⌝ }
+    ensures { λ r. ⌜ r ≡ cond here (x - bits) x ⌝ }
+{
+    if here {
+        return x - bits;
+    }
+    x
+}
+
 // The place of the lowest bit of x, a word whose places begin at `from`, and the words without it.
 fn found_at(words: [u64; 5], x: u64, from: usize) -> Next
     requires { ⌜ (0 < x) × (from ≤ 256) ⌝ }
@@ -97,6 +108,24 @@ impl Bits {
         let c = with_bits(w[2], bits, i == 2);
         let d = with_bits(w[3], bits, i == 3);
         let e = with_bits(w[4], bits, i == 4);
+        Bits {
+            words: [a, b, c, d, e],
+        }
+    }
+
+    // The set without a place of it.
+    pub fn remove(self, p: usize) -> Bits
+        requires { ⌜ (p < 320) × (has (self .words) p ≡ true) ⌝ }
+        ensures { λ r. ⌜ r .words ≡ without (self .words) p ⌝ }
+    {
+        let w = self.words;
+        let i = p / 64;
+        let bits = power(p % 64);
+        let a = without_bits(w[0], bits, i == 0);
+        let b = without_bits(w[1], bits, i == 1);
+        let c = without_bits(w[2], bits, i == 2);
+        let d = without_bits(w[3], bits, i == 3);
+        let e = without_bits(w[4], bits, i == 4);
         Bits {
             words: [a, b, c, d, e],
         }

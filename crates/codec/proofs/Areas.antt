@@ -3,13 +3,13 @@
 use mathlib.Core.Path.{_≡_, refl, sym, ap, subst, _∙_}
 use mathlib.Core.Logic.{_⊎_, inl, inr, ⊎-elim}
 use mathlib.Core.Bool.{Bool, true, false, _&&_}
-use mathlib.Core.List.{List, [], _∷_, _++_, append-assoc}
+use mathlib.Core.List.{List, [], _∷_, _++_, append-assoc, append-nil}
 use Prim.Native.Nat.{ℕ, zero, suc, _+_, _-_, _*_, _/_, _%_, _≤_, _<_}
 use native.Mathlib.Nat.{div-lt-iff-lt-mul, div-add-mod', mod-lt}
 use native.Mathlib.Decide.{decLt, decLe}
 use native.Mathlib.Omega.{arith}
 use lib.ListN.{length, take, drop, getD, length-append, length-take, length-drop, replicate, length-replicate, getD-replicate}
-use lib.ListN.{List·getD-append, replicate-append-replicate}
+use lib.ListN.{List·getD-append, replicate-append-replicate, take-append-drop}
 use lib.Seq.{take-append-le, drop-append-le, take-append-add, drop-append-add}
 use lib.Seq.{length-take-le, drop-drop, take-all, take-add, take-at, drop-at, getD-take, getD-drop, getD-append-add, ext-getD}
 use borrow.Author.Tests.{eqb-true}
@@ -231,6 +231,13 @@ splice-over s at p q e h =
     (λ i u. ⊎-elim
     (λ v. byte-before s at p k i v ∙ sym (byte-before s at q h i v))
     (λ v. byte-after s at p k i (omega arith) ∙ sym (byte-after s at q h i v)) u) i)
+
+-- nothing in place of nothing
+pub splice-none : (s : List ℕ) (at : ℕ) (p : List ℕ) → p ≡ [] → splice s at p ≡ s
+unfolding splice
+splice-none s at p e =
+    let z : at + 0 ≡ at = omega arith in
+    rw (e, z, append-nil (take at s)) (take-append-drop at s)
 
 -- two splices side by side are one
 pub splice-next : (s : List ℕ) (at : ℕ) (p : List ℕ) (to : ℕ) (q : List ℕ) → at + length p ≡ to → to ≤ length s

@@ -3,16 +3,15 @@ use mathlib.Core.Path.{_≡_, refl, sym, ap, _∙_}
 use mathlib.Core.Bool.{Bool, true, false, cond}
 use mathlib.Core.Option.{Option, none, some}
 use mathlib.Core.List.{List, [], _∷_, map}
-use Prim.Native.Nat.{ℕ, _-_, _*_, _≤_, _<_}
+use Prim.Native.Nat.{ℕ, _≤_, _<_}
 use native.Mathlib.Omega.{arith}
-use lib.Dec.{eqb, ltb}
+use lib.Dec.{eqb}
 use lib.ListN.{length, length-map}
 use borrow.Author.Tests.{eq-eqb, ne-eqb}
-use Rattle.codec.specs.Area.{part}
-use Rattle.codec.proofs.Areas.{length-part}
 use Rattle.bitset.specs.Inner.Words.{emptyWords, insertAll, members, Below}
 use Rattle.bitset.proofs.Set.{members-empty, length-members}
 use Rattle.lift.specs.Rows.{recordIn, inFullPages}
+use Rattle.lift.proofs.Rows.{record-length}
 use Rattle.sweep.specs.declared.Records.{Records}
 use Rattle.sweep.specs.declared.Sweep.{Sweep}
 use Rattle.sweep.specs.Inner.Swept.{sweptFrom, Recorded}
@@ -81,12 +80,7 @@ module _ (count : ℕ) (f : ℕ → List ℕ) where
 
 module _ (lifts tail : List ℕ) (g : Records) (r : Recorded lifts tail g) (p : ℕ) (h : p < g .count) where
   pub record-size : length (recordIn lifts tail (g .first) p) ≡ 32
-  unfolding recordIn
-  record-size = go (ltb p (g .first))
-    where
-      go : (b : Bool) → length (cond b (part lifts (p * 32) 32) (part tail ((p - g .first) * 32) 32)) ≡ 32
-      go true = length-part lifts (p * 32) 32 (recorded-at lifts tail g p r h .0)
-      go false = length-part tail ((p - g .first) * 32) 32 (recorded-at lifts tail g p r h .1)
+  record-size = let b = recorded-at lifts tail g p r h in record-length lifts tail (g .first) p (b .0) (b .1)
 
 -- ---- of a closed segment
 

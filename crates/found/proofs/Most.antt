@@ -9,8 +9,6 @@ use native.Mathlib.Omega.{arith}
 use lib.Dec.{ltb}
 use lib.ListN.{length, length-append}
 use borrow.Author.Tests.{ltb-true, ltb-false, lt-ltb, le-ltb}
-use Rattle.codec.specs.Number.{numberAt}
-use Rattle.flash.specs.Chip.{pageOf}
 use Rattle.skiplist.specs.Skip.{Live, isLive}
 use Rattle.header.specs.declared.Header.{Header}
 use Rattle.header.specs.Header.{headerIn}
@@ -27,19 +25,11 @@ use Rattle.walk.specs.Inner.Sound.{Sound}
 use Rattle.walk.proofs.Hops.{start-begun}
 use Rattle.walk.proofs.Steps.{StepFacts, step-facts}
 use Rattle.found.specs.Found.{joinRows, rowsFrom, closedFound, foundRows, mostFound}
+use Rattle.found.specs.Inner.Slots.{oneBelow, slotsBelow, serialIn}
 use Rattle.found.proofs.Matched.{FewIn, closed-few, open-few}
 use Rattle.found.proofs.Segments.{after, from-step}
 
 -- ---- the slots whose serial is below a bound
-
--- 1 for a serial below the bound, else 0
-abbrev oneBelow : ℕ → ℕ → ℕ
-oneBelow serial bound = cond (ltb serial bound) 1 0
-
--- how many of the slots 0 to S − 1 have a serial below the bound
-unfoldable pub slotsBelow : (ℕ → ℕ) → ℕ → ℕ → ℕ
-slotsBelow serial zero bound = 0
-slotsBelow serial (suc slot) bound = oneBelow (serial slot) bound + slotsBelow serial slot bound
 
 one-most : (serial bound : ℕ) → oneBelow serial bound ≤ 1
 one-most serial bound = go (ltb serial bound)
@@ -85,33 +75,37 @@ module _ (serial : ℕ → ℕ) where
           let one : oneBelow (serial last) b ≡ 1 = rw (lt-ltb (serial last) b (rw same at u)) in
           omega (arith, slots-fewer last a b (omega arith))
 
--- ---- a step to a segment goes down to the serial in its slot
+-- ---- a step to a segment is by the header in its slot
 
--- the serial in the header page of a slot
-abbrev pub serialIn : List ℕ → ℕ → ℕ
-serialIn nand slot = numberAt (pageOf nand slot 31) 0 4
-
-abbrev SerialRead : List ℕ → Step → Type 0
-SerialRead nand End = Unit {0}
-SerialRead nand Damage = Unit {0}
-SerialRead nand (Pass d) = Unit {0}
-SerialRead nand (Visit s d) = d .before ≡ serialIn nand (s .slot)
-
-serial-read : (nand : List ℕ) (slots : ℕ) (live : Live) (q : Query) (c : Cursor) → SerialRead nand (advanceOf nand slots live q c)
-unfolding advanceOf headerIn
-serial-read nand slots live q c =
+pub step-read : (P : Step → Type 0) (nand : List ℕ) (slots : ℕ) (live : Live) (q : Query) (c : Cursor)
+    → let header = headerAt (live .form) nand slots (c .next) (c .before) in
+    P End → P Damage → P (Pass (cursorAfter (live .form) header q))
+    → P (Visit (closedOf (c .next .slot) header) (cursorAfter (live .form) header q)) → P (advanceOf nand slots live q c)
+unfolding advanceOf
+step-read P nand slots live q c end damage pass visit =
     go (c .last || not (isLive (c .next) live)) (not (header .good)) (isPassed nand (c .next .slot) header q)
   where
     header : Header
     header = headerAt (live .form) nand slots (c .next) (c .before)
 
-    go : (ends bad passed : Bool) → SerialRead nand (cond ends End (cond bad Damage
+    go : (ends bad passed : Bool) → P (cond ends End (cond bad Damage
         (cond passed (Pass (cursorAfter (live .form) header q))
         (Visit (closedOf (c .next .slot) header) (cursorAfter (live .form) header q)))))
-    go true bad passed = tt
-    go false true passed = tt
-    go false false true = tt
-    go false false false = refl
+    go true bad passed = end
+    go false true passed = damage
+    go false false true = pass
+    go false false false = visit
+
+-- it goes down to the serial there
+abbrev pub SerialRead : List ℕ → Step → Type 0
+SerialRead nand End = Unit {0}
+SerialRead nand Damage = Unit {0}
+SerialRead nand (Pass d) = Unit {0}
+SerialRead nand (Visit s d) = d .before ≡ serialIn nand (s .slot)
+
+pub serial-read : (nand : List ℕ) (slots : ℕ) (live : Live) (q : Query) (c : Cursor) → SerialRead nand (advanceOf nand slots live q c)
+unfolding headerIn
+serial-read nand slots live q c = step-read (SerialRead nand) nand slots live q c tt tt tt refl
 
 -- ---- the rows found
 

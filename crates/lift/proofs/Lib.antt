@@ -1,3 +1,4 @@
 pub mod Differences
 pub mod Codes
 pub mod Records
+pub mod Rows

@@ -23,3 +23,7 @@ codeAt area at = numberAt area (at + 8) 4
 
 abbrev pub noteAt : List ℕ → ℕ → List ℕ
 noteAt area at = part area (at + 12) noteWidth
+
+-- "The first four note bytes now hold a member number, 0 for none" (document 02, W-208)
+abbrev pub memberAt : List ℕ → ℕ → ℕ
+memberAt area at = numberAt area (at + 12) 4

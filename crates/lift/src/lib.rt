@@ -5,8 +5,8 @@ ghost use Prim.Native.Nat.{_+_, _-_, _*_, _^_, _≤_, _<_};
 ghost use lib.ListN.{length};
 ghost use Rattle.codec.specs.Area.{part, splice};
 ghost use Rattle.lift.specs.Limits as Limits;
-ghost use Rattle.lift.specs.Record.{timeAt, codeAt, recordWidth};
-ghost use Rattle.lift.specs.Rows.{timeIn, codeIn, recordIn};
+ghost use Rattle.lift.specs.Record.{timeAt, codeAt, memberAt, recordWidth};
+ghost use Rattle.lift.specs.Rows.{timeIn, codeIn, memberIn, recordIn};
 
 // "a time (ms, 0 to 999,999,999,999,999)"
 pub const TIME_LIMIT: u64 = 999999999999999;
@@ -86,7 +86,15 @@ pub fn record_code(area: &[u8], at: usize) -> u32
     codec::get_u32(area, at + CODE_AT)
 }
 
-// The time of the lift at place p of a segment, and its load as stored: the records before place `first` stand in `lifts`, the
+// "The first four note bytes now hold a member number, 0 for none" (document 02, W-208).
+pub fn record_member(area: &[u8], at: usize) -> u32
+    requires { ⌜ at + 16 ≤ length (now area) ⌝ }
+    ensures { λ r. ⌜ r ≡ memberAt (now (area .entry)) at ⌝ }
+{
+    codec::get_u32(area, at + NOTE_AT)
+}
+
+// The time of the lift at place p of a segment, its load as stored and its member: the records before place `first` stand in `lifts`, the
 // others in `tail`.
 pub fn time_in(lifts: &[u8], tail: &[u8], first: usize, p: usize) -> u64
     requires { ⌜ (p * recordWidth + recordWidth ≤ length (now lifts)) × ((p - first) * recordWidth + recordWidth ≤ length (now tail)) ⌝ }
@@ -106,6 +114,16 @@ pub fn code_in(lifts: &[u8], tail: &[u8], first: usize, p: usize) -> u32
         return record_code(lifts, p * RECORD_BYTES);
     }
     record_code(tail, (p - first) * RECORD_BYTES)
+}
+
+pub fn member_in(lifts: &[u8], tail: &[u8], first: usize, p: usize) -> u32
+    requires { ⌜ (p * recordWidth + recordWidth ≤ length (now lifts)) × ((p - first) * recordWidth + recordWidth ≤ length (now tail)) ⌝ }
+    ensures { λ r. ⌜ r ≡ memberIn (now (lifts .entry)) (now (tail .entry)) first p ⌝ }
+{
+    if p < first {
+        return record_member(lifts, p * RECORD_BYTES);
+    }
+    record_member(tail, (p - first) * RECORD_BYTES)
 }
 
 // The record's bytes from `at`.

@@ -2,7 +2,7 @@
 use mathlib.Core.Path.{_≡_, refl, sym, subst, _∙_}
 use mathlib.Core.Bool.{true, not, _&&_, _||_}
 use mathlib.Core.List.{List, [], _∷_}
-use Prim.Native.Nat.{ℕ, zero, suc}
+use Prim.Native.Nat.{ℕ, zero, suc, _≤_}
 use native.Mathlib.Omega.{arith}
 use lib.Dec.{ltb}
 use lib.IntN.{ℤ, pos, negsuc}
@@ -63,6 +63,12 @@ module _ (nand nor : List ℕ) (s : State) (slots n : ℕ) (judged : n ≡ bound
   pub log-sound : n ≡ 0 → (g : Log) → g ≡ logOf s slots → LogSound nand nor g
   unfolding boundsGround
   log-sound z g e = subst (LogSound nand nor) (sym e) (sound-in New s 0 nand nor slots 0 (sym judged ∙ z))
+
+  pub slots-most : n ≡ 0 → (g : Log) → g ≡ logOf s slots → g .slots ≤ 4096
+  unfolding boundsGround
+  slots-most z g e =
+      let r = row-none (nandBad (length nand) slots) (norBad (length nor)) (not (withinBounds New s 0 slots)) 0 (sym judged ∙ z) in
+      rw e (standing-in New s 0 (length nand) (length nor) slots (r .0) .chips .most)
 
   -- ---- grounds 1 to 6
 

@@ -14,7 +14,7 @@ ghost use Rattle.store.specs.World.{world};
 ghost use Rattle.questions.specs.Queries.{logOf, searchOutcome, tallyOutcome};
 
 // What a search needs of the state.
-fn log_of(s: State, slots: u64) -> Log
+pub fn log_of(s: State, slots: u64) -> Log
     ensures { λ r. ⌜ r ≡ logOf s slots ⌝ }
 {
     let heads = s.heads;

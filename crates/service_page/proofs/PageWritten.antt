@@ -6,13 +6,12 @@ use native.Mathlib.Omega.{arith}
 use borrow.Author.Tests.{ne-eqb}
 use lib.ListN.{length, getD, length-append}
 use Rattle.codec.specs.Area.{splice}
-use Rattle.codec.proofs.Areas.{length-repeated, splice-next}
+use Rattle.codec.proofs.Areas.{length-repeated, splice-next, splice-none}
 use Rattle.plate.specs.Total.{total}
 use Rattle.plate.specs.Plate.{plates}
 use Rattle.answers.specs.Printed.{spaces, number}
 use Rattle.service_page.specs.Page.{pageBytes, heading, percentage, plateLine, plateLines, totalLine, pageLines, textOf, pageOf}
 use Rattle.answers.proofs.Justified.{length-justified}
-use Rattle.answers.proofs.Printing.{splice-none}
 
 -- ---- fields side by side
 

@@ -19,6 +19,7 @@ use Rattle.store.specs.Calls as Calls
 use Rattle.store.specs.Calls.{Outcome}
 use Rattle.loads.specs.Signed.{sideBySide}
 use Rattle.state_bytes.specs.StateBytes.{stateBytes, stateAs, stateIn}
+use Rattle.pairs.specs.Answers.{PairsAnswer}
 use Rattle.kept.specs.Kept.{kept}
 use Rattle.store_abi.specs.Areas.{left, leaves, newBytes, called, Answered, replied, repliedIn}
 
@@ -102,3 +103,9 @@ tally-left laid o n counts answer answer' e f = rw (f, ← e)
 pub plate-left : (p o : Lookup) (answer answer' : List ℕ) → p ≡ o → answer' ≡ kept (p .number) (bytes 8 (p .plate)) answer
     → replied (p .number) [] answer' ≡ replied (o .number) [] (kept (o .number) (bytes 8 (o .plate)) answer)
 plate-left p o answer answer' e f = rw (f, e)
+
+-- the count of pairs
+pub pairs-left : (o : PairsAnswer) (n c : ℕ) (rows answer answer' : List ℕ)
+    → _≡_ {A = PairsAnswer} (record { number = n; count = c; area = rows }) o → answer' ≡ kept n (bytes 8 c) answer
+    → replied n rows answer' ≡ replied (o .number) (o .area) (kept (o .number) (bytes 8 (o .count)) answer)
+pairs-left o n c rows answer answer' e f = rw (f, ← e)

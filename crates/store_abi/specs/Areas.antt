@@ -14,6 +14,7 @@ use Rattle.form.specs.declared.Form.the-variants.{Old, New}
 use Rattle.store.specs.World.{World, world}
 use Rattle.store.specs.Calls.{Outcome, formatOutcome, appendOutcome, closeOutcome, dropOutcome}
 use Rattle.questions.specs.Queries.{searchOutcome, tallyOutcome}
+use Rattle.pairs.specs.Call.{pairsOutcome}
 use Rattle.service_page.specs.Page.{pageBytes, pageOf}
 use Rattle.loads.specs.Signed.{sideBySide}
 use Rattle.conversion.specs.Outcome.{forwardOutcome, backwardOutcome}
@@ -96,6 +97,14 @@ searchCalled area nand nor slots t1 t2 k1 k2 rows answer =
     let o = searchOutcome (world nand nor (stateIn area)) slots t1 t2 k1 k2 rows in
     let numbers = o .count ∷ o .pages .headers ∷ o .pages .bloom ∷ o .pages .tree ∷ [] in
     repliedIn area answer 32 rows (replied (o .number) (o .area) (kept (o .number) (sideBySide (bytes 8) numbers) answer))
+
+-- pairs of two stores (W-208): the states and the answer, in this order, of their lengths
+unfoldable pub pairsCalled : List ℕ → List ℕ → List ℕ → ℕ → List ℕ → List ℕ → List ℕ → ℕ → List ℕ → List ℕ → Answered
+pairsCalled first nand1 nor1 slots1 second nand2 nor2 slots2 rows answer =
+    let o = pairsOutcome (world nand1 nor1 (stateIn first)) slots1 (world nand2 nor2 (stateIn second)) slots2 rows in
+    cond (eqb (length first) (areaLength New))
+    (repliedIn second answer 8 rows (replied (o .number) (o .area) (kept (o .number) (bytes 8 (o .count)) answer)))
+    (replied 20 rows answer)
 
 -- 22 counts of 8 bytes
 unfoldable pub tallyCalled : List ℕ → List ℕ → List ℕ → ℕ → ℕ → ℕ → List ℕ → Answered

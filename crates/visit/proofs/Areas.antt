@@ -57,7 +57,7 @@ module _ (nand : List ℕ) (s : Closed) (sound : ClosedSound nand s) where
 -- ---- the open segment
 
 module _ (nand nor : List ℕ) (g : Log) (sound : LogSound nand nor g) where
-  open-slot : slotOf (g .current) (g .slots) < g .slots
+  pub open-slot : slotOf (g .current) (g .slots) < g .slots
   unfolding slotOf
   open-slot = mod-lt (g .current - 1) (sound .slots-some)
 

@@ -2,6 +2,7 @@
 use super::append::{append_lift, drop_oldest_closed};
 use super::carry::carry_over;
 use super::close::close_segment;
+use super::pairs::pair_up;
 use super::search::{find, load_of, Found, PagesRead};
 use super::state::State;
 use super::work::{put_state, Work};
@@ -10,12 +11,13 @@ use crate::plate::plate_of;
 use crate::service_page;
 use crate::stacks::{generated, plate_at};
 use script::areas::{Areas, SLOT_BYTES};
-use script::calls::{Call, Carry, Outputs, Store, Window};
+use script::calls::{Call, Carry, Outputs, Pairs, Store, Window};
 use script::form::Form;
 
 const NOR_BYTES: usize = 6_144;
 
-/// Answers any call on any areas as document 01 says, in form 1 as W-202, W-206 and W-207 amend it, and W-203's two calls.
+/// Answers any call on any areas as document 01 says, in form 1 as W-202, W-206 and W-207 amend it, and the calls of W-203
+/// and W-208.
 pub struct Expectation;
 
 impl Store for Expectation {
@@ -35,6 +37,10 @@ impl Store for Expectation {
 
     fn carry(&mut self, carry: &Carry, first: &mut Areas, second: &mut Areas) -> u8 {
         carry_over(carry.into, carry.slots, first, second).err().unwrap_or(0)
+    }
+
+    fn pairs(&mut self, pairs: &Pairs, first: &Areas, second: &Areas, outputs: &mut Outputs) -> u8 {
+        pair_up((first, pairs.slots), (second, pairs.second_slots), outputs).err().unwrap_or(0)
     }
 
     fn generate(&mut self, input: &[u8]) -> Result<Vec<u8>, String> {
@@ -103,7 +109,7 @@ fn drop_oldest(form: Form, areas: &mut Areas, slots: u64) -> Outcome<()> {
     work.end(result)
 }
 
-fn put_values(outputs: &mut Outputs, values: &[u64]) {
+pub fn put_values(outputs: &mut Outputs, values: &[u64]) {
     outputs.answer = values.iter().flat_map(|value| value.to_le_bytes()).collect();
 }
 

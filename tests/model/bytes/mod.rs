@@ -1,5 +1,5 @@
 //! The expectation of every byte, over whatever chips and states are handed over: document 01 in its own form 0 and in
-//! form 1 of W-202, and W-203's conversions.
+//! form 1 of W-202, W-203's conversions and W-208's pairs.
 mod append;
 mod bloom;
 mod bucket;
@@ -9,8 +9,10 @@ mod close;
 mod header;
 mod insert;
 mod numbers;
+mod pairs;
 mod search;
 mod state;
 mod work;
 
 pub use calls::{found, Expectation};
+pub use pairs::pairs_found;

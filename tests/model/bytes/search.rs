@@ -7,6 +7,7 @@ use super::numbers::{u32_at, u64_at};
 use super::state::{Pointer, State};
 use super::work::*;
 use crate::limits::*;
+use crate::paper::Record;
 use script::areas::{Areas, PAGE_BYTES};
 use script::calls::Window;
 use script::form::Form;
@@ -43,8 +44,6 @@ struct Matches {
     records: Vec<Record>,
     visited: Vec<usize>,
 }
-
-pub type Record = [u8; ROW_BYTES];
 
 pub fn load_of(record: &Record) -> i64 {
     i64::from(u32_at(record, 8)) - LOAD_SHIFT

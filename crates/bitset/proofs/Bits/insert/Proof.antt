@@ -4,7 +4,7 @@ use Prim.Native.Nat.{ℕ, _/_}
 use native.Mathlib.Omega.{arith}
 use lib.Bits.{bitOr}
 use lib.ListN.{length, getD, set}
-use Rattle.bitset.proofs.Words.{five-insert}
+use Rattle.bitset.proofs.Words.{five-changed}
 use borrow.Author.Needs.{needs}
 use Rattle.bitset.proofs.Bits.insert.Statement.{statement}
 use Rattle.bitset.proofs.Bits.insert.Tie as tie
@@ -48,7 +48,7 @@ returns c =
     let ws = w .args .self .words in
     let l : length ws ≡ 5 = search needs in
     let i = w .args .p / 64 in
-    five-insert ws i _ _ _ _ _ _ l (omega arith)
+    five-changed (λ (x : ℕ). bitOr x (c .before .before .before .before .before .power .result)) ws i _ _ _ _ _ l (omega arith)
     (c .before .before .before .before .with-bits .ensures)
     (c .before .before .before .with-bits2 .ensures)
     (c .before .before .with-bits3 .ensures)

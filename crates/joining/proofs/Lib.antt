@@ -1,0 +1,9 @@
+pub mod Fitting
+pub mod Lists
+pub mod Passes
+pub mod Looks
+pub mod Turns
+pub mod Segments
+pub mod Taking
+pub mod Lifts
+pub mod Logs

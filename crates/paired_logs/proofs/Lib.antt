@@ -1,0 +1,2 @@
+pub mod AllFound
+pub mod PairedLogs

@@ -1,0 +1,5 @@
+pub mod SideBySide
+pub mod Segments
+pub mod Turns
+pub mod Whole
+pub mod Rising

@@ -1,0 +1,3 @@
+pub mod Held
+pub mod Rising
+pub mod Turns
