@@ -3,8 +3,9 @@ use crate::carried::{backward, backward_in_place, Carried, OldStore};
 use crate::gym::{Gym, Random};
 use crate::in_place::InPlace;
 use crate::lift::{Contender, Lift, RECORD_BYTES};
-use crate::proved::{found_in, FoundArea, Proved};
+use crate::proved::{found_in, listed_in, FoundArea, ListedArea, Proved};
 use crate::service_page::ServicePage;
+use crate::tolerant_in_place::TolerantInPlace;
 use plain::{plate_of, plate_on, Counts, Ground, OldState, State, Window, LOAD_MAX, LOAD_MIN, SLOT_BYTES, TIME_MAX};
 
 const TRIALS: usize = 4_000;
@@ -12,7 +13,7 @@ const TRIALS: usize = 4_000;
 const STUCK: [i32; 4] = [9_751, 10_250, 10_251, LOAD_MAX];
 
 /// How often each number was answered, 0 first.
-type Seen = [usize; 15];
+type Seen = [usize; 18];
 
 fn number<T>(answer: Result<T, Ground>) -> u8 {
     answer.map_or_else(|ground| ground as u8, |_| 0)
@@ -21,7 +22,7 @@ fn number<T>(answer: Result<T, Ground>) -> u8 {
 /// How often each number was answered, over all trials; panics where the two differ.
 pub fn check() -> Seen {
     let mut random = Random(7);
-    let mut seen = [0; 15];
+    let mut seen = [0; 18];
     for slots in [2, 3, 5] {
         let mut lifts = Gym::new(slots).lifts(slots as usize * 400);
         lifts.iter_mut().step_by(16).for_each(|lift| lift.load = STUCK[random.within(0, 3) as usize]);
@@ -162,6 +163,27 @@ fn same_answers(random: &mut Random, store: &Proved, plain: &InPlace, last: u64,
     assert_eq!(found_in(&answer), found.unwrap_or_default(), "counts differ");
     seen[usize::from(proved)] += 1;
     same_counts(store, plain, t1, t2, seen);
+    same_lists(random, store, window, seen);
+}
+
+/// Both lists of a tolerant search; now and then its window is past a limit.
+fn same_lists(random: &mut Random, store: &Proved, mut window: Window, seen: &mut Seen) {
+    match random.within(0, 15) {
+        0 => window.t2 = TIME_MAX + 1,
+        1 => window.k2 = LOAD_MAX + 1,
+        _ => {}
+    }
+    let tolerance = [0, 10, 25, 1_000, 1_001, 1 << 32][random.within(0, 5) as usize];
+    let mut area = || vec![9; random.within(0, 1_500) as usize * RECORD_BYTES + 5];
+    let (mut certain, mut possible, mut answer) = (area(), area(), [0; size_of::<ListedArea>()]);
+    let (mut plain_certain, mut plain_possible) = (certain.clone(), possible.clone());
+    let proved = store.tolerant(&window, tolerance, &mut certain, &mut possible, &mut answer);
+    let plain = TolerantInPlace::of(store);
+    let listed = plain.tolerant(&window, tolerance, &mut plain_certain, &mut plain_possible);
+    assert_eq!(proved, listed.err().unwrap_or(0), "numbers differ");
+    assert!(certain == plain_certain && possible == plain_possible, "lists differ");
+    assert_eq!(listed_in(&answer), listed.unwrap_or_default(), "counts differ");
+    seen[usize::from(proved)] += 1;
 }
 
 /// A tally and its page; a refusal leaves the area of either as it was.

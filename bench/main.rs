@@ -26,6 +26,8 @@ mod sqlite;
 #[cfg(sqlite)]
 mod sqlite_calls;
 mod stack;
+mod tolerant;
+mod tolerant_in_place;
 
 use carried::{backward, Carried, OldStore};
 use field::Field;
@@ -64,7 +66,7 @@ fn measured(slots: u64) -> (Field, Vec<Line>) {
     (field, lines)
 }
 
-/// The stack of each call but pairs on a filled store: the deepest of many.
+/// The stack of each call but pairs and tolerant searches on a filled store: the deepest of many.
 fn depths() -> Vec<(&'static str, usize)> {
     let mut field = Field::filled(2);
     let window = everything(&field);
@@ -104,8 +106,9 @@ fn main() {
         ["pages"] => pages_read::print(),
         ["searches"] => search_lines::print(),
         ["pairs"] => pairs::table(&SIZES.map(pairs::measured)),
+        ["tolerant"] => tolerant::table(&SIZES.map(tolerant::measured)),
         _ => {
-            eprintln!("bench report SYMBOLS | bench pages | bench searches | bench pairs");
+            eprintln!("bench report SYMBOLS | bench pages | bench searches | bench pairs | bench tolerant");
             std::process::exit(2);
         }
     }
@@ -135,8 +138,17 @@ fn report(symbols: &str) {
     );
     println!("the pairing alone by hand on two arrays of the rows that these searches give. Store and hand agree.\n");
     pairs::table(&paired);
+    let tolerated = SIZES.map(tolerant::measured);
+    println!(
+        "\nTolerant searches, in the same manner, of loads good to 25: the store's call and (a)'s; by the store, one"
+    );
+    println!("search of the widened range, and two, of the narrowed and of the widened. All find the same rows.\n");
+    tolerant::table(&tolerated);
     let mut depths = depths();
     depths.extend(paired.last().map(|line| (report::PAIRS_STACK, line.stack)));
+    depths.extend(tolerated.last().map(|size| (report::TOLERANT_STACK, size.stack)));
+    let tolerant_lines = tolerated.into_iter().flat_map(|size| size.lines).map(|line| line.line);
+    let lines: Vec<Line> = lines.into_iter().chain(tolerant_lines).collect();
     println!();
     report::stacks(&depths);
     report::plans(&large.sqlite_plans());

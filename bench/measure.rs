@@ -168,7 +168,7 @@ pub fn lookups(place: u64, call: &'static str) -> Line {
 }
 
 /// The time of one call where so many were made at once.
-fn of_each(calls: usize, rounds: Rounds) -> Rounds {
+pub fn of_each(calls: usize, rounds: Rounds) -> Rounds {
     rounds.into_iter().map(|ns| ns / calls as f64).collect()
 }
 
@@ -181,7 +181,11 @@ enum Side {
 
 /// Rounds of one call by the store and by (a).
 fn in_turns(mut run: impl FnMut(Side)) -> AllRounds {
-    let [store, in_place] = in_turns_of(|i| run([Side::Store, Side::InPlace][i]));
+    of_both(in_turns_of(|i| run([Side::Store, Side::InPlace][i])))
+}
+
+/// The rounds of the store and of (a) where the others have no such call.
+pub fn of_both([store, in_place]: [Rounds; 2]) -> AllRounds {
     let mut all = AllRounds::default();
     (all[0], all[1]) = (store, in_place);
     all

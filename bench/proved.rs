@@ -2,6 +2,7 @@
 use crate::lift::{Contender, Lift};
 use crate::service_page::ServicePage;
 use plain::{Counts, Found, PagesRead, Window, NOR_BYTES, SLOT_BYTES, STATE_BYTES, TIME_MAX};
+use plain_tolerant::Tolerated;
 
 extern "C" {
     fn store_format(
@@ -87,10 +88,32 @@ extern "C" {
         page_len: usize,
     ) -> u8;
     fn store_plate(place: u64, load: i32, answer: *mut u8, answer_len: usize) -> u8;
+    fn store_tolerant(
+        state: *const u8,
+        state_len: usize,
+        nand: *const u8,
+        nand_len: usize,
+        nor: *const u8,
+        nor_len: usize,
+        slots: u64,
+        t1: u64,
+        t2: u64,
+        k1: i32,
+        k2: i32,
+        tolerance: u64,
+        certain: *mut u8,
+        certain_len: usize,
+        possible: *mut u8,
+        possible_len: usize,
+        answer: *mut u8,
+        answer_len: usize,
+    ) -> u8;
 }
 
 /// A search's answer area: rows, header pages, Bloom pages and tree pages, eight bytes each.
 pub type FoundArea = [u8; 32];
+/// A tolerant search's answer area: certain lifts and possible ones, eight bytes each.
+pub type ListedArea = [u8; 16];
 /// A tally's answer area.
 pub type CountsArea = [u8; size_of::<Counts>()];
 
@@ -103,6 +126,11 @@ fn number_in(area: &[u8], i: usize) -> u64 {
 pub fn found_in(area: &FoundArea) -> Found {
     let pages = |i| number_in(area, i).try_into().expect("a count of pages");
     Found { rows: number_in(area, 0) as usize, pages: PagesRead { header: pages(1), bloom: pages(2), tree: pages(3) } }
+}
+
+/// The same of a tolerant search: how many lifts are certain and how many possible.
+pub fn listed_in(area: &ListedArea) -> Tolerated {
+    Tolerated { certain: number_in(area, 0) as usize, possible: number_in(area, 1) as usize }
 }
 
 /// State and chips as the console holds them; each call hands back its number.
@@ -241,6 +269,39 @@ impl Proved {
 
     pub fn plate(place: u64, load: i32, answer: &mut [u8; 8]) -> u8 {
         unsafe { store_plate(place, load, answer.as_mut_ptr(), answer.len()) }
+    }
+
+    pub fn tolerant(
+        &self,
+        w: &Window,
+        tolerance: u64,
+        certain: &mut [u8],
+        possible: &mut [u8],
+        answer: &mut ListedArea,
+    ) -> u8 {
+        let Proved { state, nand, nor, slots } = self;
+        unsafe {
+            store_tolerant(
+                state.as_ptr(),
+                STATE_BYTES,
+                nand.as_ptr(),
+                nand.len(),
+                nor.as_ptr(),
+                nor.len(),
+                *slots,
+                w.t1,
+                w.t2,
+                w.k1,
+                w.k2,
+                tolerance,
+                certain.as_mut_ptr(),
+                certain.len(),
+                possible.as_mut_ptr(),
+                possible.len(),
+                answer.as_mut_ptr(),
+                answer.len(),
+            )
+        }
     }
 
     /// How many lifts are retained.

@@ -14,8 +14,13 @@ pub const CONVERSIONS: [&str; 2] = ["forward", "backward"];
 /// By the stack's place.
 pub const LOOKUPS: [&str; 2] = ["plate, twenty of 500", "plate, four of 250 over sixteen of 500"];
 
-/// The stack of pairs at this S is measured apart.
+pub const TOLERANT_RECENT_DAY: &str = "tolerant, a day of the last 30";
+pub const TOLERANT_ANY_DAY: &str = "tolerant, any day";
+pub const TOLERANT_WHOLE_LOG: &str = "tolerant, whole log";
+
+/// The stacks of these two are measured apart, at this S.
 pub const PAIRS_STACK: &str = "pairs, S = 4096";
+pub const TOLERANT_STACK: &str = "tolerant, S = 4096";
 
 const STACK_MOST: usize = 8_192;
 /// Pairs keep a bit for each lift that the second store can hold.
@@ -48,7 +53,7 @@ pub fn ratio_cell(above: &Rounds, below: &Rounds) -> String {
     })
 }
 
-fn slots_cell(line: &Line) -> String {
+pub fn slots_cell(line: &Line) -> String {
     line.slots.map_or("-".into(), |slots| slots.to_string())
 }
 

@@ -1,7 +1,7 @@
 //! The store's C interface, called with areas that have margins.
 use model::bytes::Expectation;
 use script::areas::Areas;
-use script::calls::{Call, Carry, Outputs, Pairs, Store, Window};
+use script::calls::{Call, Carry, Outputs, Pairs, Store, Tolerant, TolerantOutputs, Window};
 use script::command::Part;
 use script::form::Form;
 
@@ -51,6 +51,11 @@ mod c {
             first_nor_len: usize, first_slots: u64, second: *const u8, second_len: usize, second_nand: *const u8,
             second_nand_len: usize, second_nor: *const u8, second_nor_len: usize, second_slots: u64, rows: *mut u8,
             rows_len: usize, answer: *mut u8, answer_len: usize,
+        ) -> u8;
+        pub fn store_tolerant(
+            state: *const u8, state_len: usize, nand: *const u8, nand_len: usize, nor: *const u8, nor_len: usize,
+            slots: u64, t1: u64, t2: u64, k1: i32, k2: i32, d: u64, certain: *mut u8, certain_len: usize,
+            possible: *mut u8, possible_len: usize, answer: *mut u8, answer_len: usize,
         ) -> u8;
     }
 }
@@ -155,6 +160,20 @@ impl Store for Library {
         number_if(whole, number)
     }
 
+    fn tolerant(&mut self, tolerant: &Tolerant, areas: &Areas, outputs: &mut TolerantOutputs) -> u8 {
+        let [mut state, mut nor, mut answer] = [&areas.state, &areas.nor, &outputs.answer].map(|area| Lent::new(area));
+        let [mut certain, mut possible] = outputs.lists.each_ref().map(|list| Lent::new(list));
+        let store = ReadStore { state: state.area(), nand: &areas.nand, nor: nor.area(), slots: tolerant.slots };
+        let number = enter_tolerant(tolerant, &store, [certain.area(), possible.area()], answer.area());
+        let whole = [
+            state.is_untouched(&areas.state) && nor.is_untouched(&areas.nor),
+            certain.hand_back(&mut outputs.lists[0]),
+            possible.hand_back(&mut outputs.lists[1]),
+            answer.hand_back(&mut outputs.answer),
+        ];
+        number_if(whole, number)
+    }
+
     fn generate(&mut self, input: &[u8]) -> Result<Vec<u8>, String> {
         program::printed(&program::beside("plate_ends")?, input)
     }
@@ -203,7 +222,7 @@ pub fn enter_carry(into: Form, slots: u64, first: LentStore, second: LentStore) 
     }
 }
 
-/// One of the two machines of a pairing, of whatever lengths.
+/// A store that is only read, as one of the two machines of a pairing, of whatever lengths.
 pub struct ReadStore<'a> {
     pub state: &'a [u8],
     pub nand: &'a [u8],
@@ -229,6 +248,19 @@ pub fn enter_pairs(first: &ReadStore, second: &ReadStore, rows: &mut [u8], answe
     // Sound if the library keeps to the areas whose lengths it is told and writes to the last two alone, which is what is
     // under test.
     unsafe { pairs(u, u_len, v, v_len, w, w_len, s, x, x_len, y, y_len, z, z_len, t, ro, ro_len, an, an_len) }
+}
+
+/// Has the library search a store with a tolerance, into the areas of certain and of possible lifts.
+pub fn enter_tolerant(call: &Tolerant, store: &ReadStore, lists: [&mut [u8]; 2], answer: &mut [u8]) -> u8 {
+    let Window { t1, t2, k1, k2 } = call.window;
+    let (s, d) = (store.slots, call.tolerance);
+    let [(st, st_len), (na, na_len), (no, no_len)] = store.told();
+    let [(ce, ce_len), (po, po_len)] = lists.map(|list| (list.as_mut_ptr(), list.len()));
+    let (an, an_len) = (answer.as_mut_ptr(), answer.len());
+    let tolerant = c::store_tolerant;
+    // Sound if the library keeps to the areas whose lengths it is told and writes to the last three alone, which is what is
+    // under test.
+    unsafe { tolerant(st, st_len, na, na_len, no, no_len, s, t1, t2, k1, k2, d, ce, ce_len, po, po_len, an, an_len) }
 }
 
 /// Calls the library with areas of whatever lengths.

@@ -1,5 +1,5 @@
 //! The rules of document 01, in form 1 of W-202, in place and without proofs: the same chips and bytes, the state a struct that the
-//! calls change; W-203's conversions, W-205's lookup and W-207's counts.
+//! calls change; W-203's conversions, W-205's lookup and W-207's counts; with cfg(tolerant) W-209's search.
 #![no_std]
 #![forbid(unsafe_code)]
 
@@ -15,12 +15,16 @@ mod plate;
 mod query;
 mod split;
 mod state;
+#[cfg(tolerant)]
+mod tolerant;
 mod tree;
 
 pub use form::{OldState, OLD_STATE_BYTES};
 pub use plate::{plate_of, plate_on, Counts};
 pub use query::{Found, PagesRead, Window};
 pub use state::{Pointer, State, STATE_BYTES};
+#[cfg(tolerant)]
+pub use tolerant::Tolerated;
 
 /// The grounds by their numbers.
 #[repr(u8)]
@@ -41,6 +45,8 @@ pub enum Ground {
     OtherForm,
     NoWayBack,
     NoStack,
+    #[cfg(tolerant)]
+    TooTolerant = 17,
 }
 
 pub const TIME_MAX: u64 = 999_999_999_999_999;

@@ -94,7 +94,7 @@ impl State {
 
 impl Window {
     /// Grounds 4, 5 and 6.
-    fn check(&self) -> Result<Asked, Ground> {
+    pub(crate) fn check(&self) -> Result<Asked, Ground> {
         let Window { t1, t2, k1, k2 } = *self;
         if t1 > TIME_MAX || t2 > TIME_MAX {
             Err(Ground::TimeLimit)
@@ -110,7 +110,7 @@ impl Window {
 
 impl<'a> Log<'a> {
     /// Every segment that may hold a match, the newest first; the pages read of closed ones are handed back.
-    fn visit(&self, asked: &Asked, mut take: impl FnMut(&Segment<'a>, Matches)) -> Result<PagesRead, Ground> {
+    pub fn visit(&self, asked: &Asked, mut take: impl FnMut(&Segment<'a>, Matches)) -> Result<PagesRead, Ground> {
         let state = self.state;
         let mut pages = PagesRead::default();
         if state.count > 0 {

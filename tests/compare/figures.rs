@@ -2,8 +2,9 @@
 use crate::pages_read::PagesRead;
 use crate::paired::Paired;
 use crate::stacks::ListFigures;
+use crate::tolerated::Tolerated;
 use model::paper::{Closed, Said};
-use script::calls::{Call, Carry, Outputs, Pairs};
+use script::calls::{Call, Carry, Outputs, Pairs, Tolerant, TolerantOutputs};
 use script::form::Form;
 
 /// How often each number was given, the last one being `N` - 1.
@@ -52,11 +53,14 @@ impl Turns {
     }
 }
 
-/// Up to 16; 20 is counted apart, since no script has an area of a wrong length.
-const NUMBERS: usize = 17;
-const CALLS: usize = Call::NAMES.len() + Carry::NAMES.len() + 1;
+/// Up to 17; 20 is counted apart, since no script has an area of a wrong length.
+const NUMBERS: usize = 18;
+/// The places of calls in the table: in the order of `Call::NAMES` and then of `Carry::NAMES`, last these two.
+const PAIRS: usize = Call::NAMES.len() + Carry::NAMES.len();
+const TOLERANT: usize = PAIRS + 1;
+const CALLS: usize = TOLERANT + 1;
 
-/// The numbers of each call, in the order of `Call::NAMES` and then of `Carry::NAMES`; last those of pairs.
+/// The numbers of each call, in the order of the table.
 const NUMBERS_OF_CALLS: [&[usize]; CALLS] = [
     &[0, 1, 2],
     &[0, 1, 2, 3, 4, 5, 7, 8, 10, 11],
@@ -69,6 +73,7 @@ const NUMBERS_OF_CALLS: [&[usize]; CALLS] = [
     &[0, 1, 2, 3, 10, 13],
     &[0, 1, 2, 3, 10, 13, 14],
     &[0, 1, 2, 3, 10, 16],
+    &[0, 1, 2, 3, 4, 5, 6, 10, 12, 17],
 ];
 
 #[derive(Default)]
@@ -79,6 +84,7 @@ pub struct Figures {
     turns: Turns,
     pub pages_read: PagesRead,
     pub paired: Paired,
+    pub tolerated: Tolerated,
     pub wrong_lengths: u64,
     /// Calls on stores of form 0, which the model alone answers.
     of_form_0: u64,
@@ -99,9 +105,16 @@ impl Figures {
     }
 
     pub fn count_pairs(&mut self, number: u8, with_itself: bool, outputs: &Outputs) {
-        self.count(CALLS - 1, number);
+        self.count(PAIRS, number);
         if number == 0 {
             self.paired.count(with_itself, outputs);
+        }
+    }
+
+    pub fn count_tolerant(&mut self, call: &Tolerant, number: u8, outputs: &TolerantOutputs) {
+        self.count(TOLERANT, number);
+        if number == 0 {
+            self.tolerated.count(call, outputs);
         }
     }
 
@@ -124,7 +137,7 @@ impl Figures {
     }
 
     fn rows(&self) -> impl Iterator<Item = (&'static str, &Numbers<NUMBERS>)> {
-        Call::NAMES.into_iter().chain(Carry::NAMES).chain([Pairs::NAME]).zip(&self.calls)
+        Call::NAMES.into_iter().chain(Carry::NAMES).chain([Pairs::NAME, Tolerant::NAME]).zip(&self.calls)
     }
 
     /// Every pair of call and number that was not met, the generator's among them.
@@ -148,5 +161,6 @@ impl Figures {
         self.turns.print();
         self.pages_read.print();
         self.paired.print();
+        self.tolerated.print();
     }
 }

@@ -2,6 +2,7 @@
 use crate::judge::Step;
 use crate::patterns::{near_plate_end, Loads, Times};
 use crate::random::Random;
+use crate::tolerant;
 use crate::trial::Trial;
 use model::limits::{EVERYTHING, GREATEST_LOAD, LAST_TIME, LEAST_LOAD};
 use model::stacks::{carried, ends};
@@ -42,6 +43,11 @@ impl Habits {
     /// Loads from now on that need many buckets.
     pub fn spread_loads(&mut self) {
         self.loads = Loads::Even { load: 0 };
+    }
+
+    /// Loads from now on at the limits and elsewhere, close together or so far apart.
+    pub fn set_loads_apart(&mut self, apart: i32, random: &mut Random) {
+        self.loads = Loads::apart(apart, random);
     }
 
     /// From now on each lift later than the one before.
@@ -88,11 +94,11 @@ impl Habits {
         trial.call(Call::Close { slots: self.slots })
     }
 
-    /// A search, now and then a tally, a page or a plate.
+    /// A search, now and then a tally, a page, a plate or, in form 1, a tolerant search.
     pub fn ask(&mut self, trial: &mut Trial) -> Step {
         let slots = self.slots;
         let window = self.window(&mut trial.random);
-        match trial.random.below(9) {
+        match trial.random.below(10) {
             0 | 1 => {
                 let call = tally_or_page(trial, slots, window.t1, window.t2);
                 trial.call(call)
@@ -100,6 +106,10 @@ impl Habits {
             2 => {
                 let call = lookup(&mut trial.random);
                 trial.call(call)
+            }
+            3 if trial.form == Form::New => {
+                let tolerance = tolerant::any_tolerance(&mut trial.random);
+                tolerant::search_about(trial, slots, window, tolerance)
             }
             _ => {
                 let found = trial.rows_found(slots, &window) * ROW_BYTES;
@@ -174,7 +184,7 @@ impl Habits {
         beside(time, random)
     }
 
-    fn window(&self, random: &mut Random) -> Window {
+    pub fn window(&self, random: &mut Random) -> Window {
         let (a, b) = (self.known_time(random), self.known_time(random));
         let (t1, t2) = match random.below(6) {
             0 | 1 => (0, LAST_TIME),
@@ -252,7 +262,7 @@ pub fn odd_slots(slots: u64, random: &mut Random) -> u64 {
     random.pick(&choices)
 }
 
-fn odd_load(random: &mut Random) -> i32 {
+pub fn odd_load(random: &mut Random) -> i32 {
     random.pick(&[LEAST_LOAD - 1, LEAST_LOAD, GREATEST_LOAD, GREATEST_LOAD + 1, i32::MIN, i32::MAX])
 }
 

@@ -4,11 +4,12 @@ use crate::page_rules;
 use crate::paired;
 use crate::programs;
 use crate::reached::Reached;
+use crate::tolerated;
 use abi::{LentStore, Library, ReadStore};
 use model::bytes::Expectation;
 use model::paper::{PaperLog, Said};
 use script::areas::{Areas, World, STORES};
-use script::calls::{Call, Carry, Outputs, Pairs, Store};
+use script::calls::{Call, Carry, Outputs, Pairs, Store, Tolerant, TolerantOutputs};
 use script::command::{Command, Part};
 use script::form::Form;
 use script::hash::copy_changed;
@@ -103,6 +104,14 @@ impl Judge {
         Some(abi::enter_pairs(&first, &second, &mut outputs.rows, &mut outputs.answer))
     }
 
+    /// Has the library search the present store with a tolerance, with state and answer areas of any length.
+    pub fn tolerant_with(&self, call: &Tolerant, state: &[u8], outputs: &mut TolerantOutputs) -> Option<u8> {
+        let Areas { nand, nor, .. } = &self.tested.as_ref()?.world.areas;
+        let store = ReadStore { state, nand, nor, slots: call.slots };
+        let lists = outputs.lists.each_mut().map(|list| &mut list[..]);
+        Some(abi::enter_tolerant(call, &store, lists, &mut outputs.answer))
+    }
+
     pub fn compare_areas(&self, command: &Command) -> Step {
         self.compare_store(command, self.expected.selected(), "")
     }
@@ -134,6 +143,7 @@ impl Judge {
             Command::Call(form, call) => return self.call(command, *form, call),
             Command::Carry(carry) => return self.carry(command, carry),
             Command::Pairs(pairs) => return self.pairs(command, pairs),
+            Command::Tolerant(tolerant) => return self.tolerant(command, tolerant),
             Command::Gen(input) => return self.generate(input),
             Command::Rows | Command::Dump { .. } | Command::Changed => return Ok(()),
             Command::Use(_) => {}
@@ -263,6 +273,37 @@ impl Judge {
         }
         self.figures.paired.count_by_logs();
         paired::check(pairs, [one, two], number, &expected_outputs).or_else(|broken| differ(command, broken))
+    }
+
+    /// The store does not change. Its own plain search has its word on the lists, and so has the paper log.
+    fn tolerant(&mut self, command: &Command, call: &Tolerant) -> Step {
+        let mut expected = call.outputs();
+        let number = Expectation.tolerant(call, &self.expected.areas, &mut expected);
+        self.number = number;
+        self.figures.count_tolerant(call, number, &expected);
+        if let Some(tested) = &self.tested {
+            let mut outputs = call.outputs();
+            let given = Library.tolerant(call, &tested.world.areas, &mut outputs);
+            if given != number {
+                return differ(command, format!("number {given}, expected {number}"));
+            }
+            compare_bytes(command, "answer area", &outputs.answer, &expected.answer)?;
+            compare_bytes(command, "certain lifts' area", &outputs.lists[0], &expected.lists[0])?;
+            compare_bytes(command, "possible lifts' area", &outputs.lists[1], &expected.lists[1])?;
+            self.compare_areas(command)?;
+        }
+        let broken = |what: String| Difference(format!("{command}: {what}"));
+        if number == 0 {
+            tolerated::check_part(&expected).map_err(broken)?;
+        }
+        if let Some(tested) = &mut self.tested {
+            tolerated::check_plain(call, number, &expected, &mut tested.world.areas, &mut Library).map_err(broken)?;
+        }
+        let reached = self.reached[self.expected.selected()].as_ref();
+        match reached.map(|reached| &reached.log).filter(|log| log.form() == Form::New) {
+            Some(log) => self.figures.tolerated.check_log(call, log, number, &expected).map_err(broken),
+            None => Ok(()),
+        }
     }
 
     /// The generator works on no store; what it prints is compared.

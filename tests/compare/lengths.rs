@@ -4,13 +4,14 @@ use crate::random::Random;
 use crate::trial::{Trial, NOR_BYTES};
 use abi::LentStore;
 use script::areas::SLOT_BYTES;
-use script::calls::{Call, Carry, Outputs, Pairs, Window, UNTOUCHED};
+use script::calls::{Call, Carry, Outputs, Pairs, Tolerant, Window, UNTOUCHED};
 use script::command::Command;
 use script::form::Form;
 
 const WRONG_LENGTH: u8 = 20;
-/// Of one number, as a search of form 0 has it; of a search; of a tally and of a page, each with a plate less and as it is.
-const ANSWER_LENGTHS: [usize; 6] = [8, 32, 168, 176, 943, 984];
+/// Of one number, as a search of form 0 has it; of a tolerant search; of a search; of a tally and of a page, each with a
+/// plate less and as it is.
+const ANSWER_LENGTHS: [usize; 7] = [8, 16, 32, 168, 176, 943, 984];
 
 /// A length that a state area of this form does not have; it may be the other form's.
 fn wrong_length(form: Form, random: &mut Random) -> usize {
@@ -37,7 +38,7 @@ fn check_refusal(trial: &mut Trial, number: u8, changed: bool, lengths: &str) ->
     Ok(())
 }
 
-/// Tries every call once on the present areas, with one wrong length or two.
+/// Tries every call of one store on the present areas, with one wrong length or two.
 pub fn try_wrong_ones(trial: &mut Trial, slots: u64) -> Step {
     let slots = if trial.random.once_in(4) { slots + 1 } else { slots };
     let time = trial.random.below(1000);
@@ -52,7 +53,9 @@ pub fn try_wrong_ones(trial: &mut Trial, slots: u64) -> Step {
         Call::Page { slots, t1: 0, t2: time },
         Call::Plate { place: trial.random.below(3), load: 251 },
     ];
-    calls.iter().try_for_each(|call| try_wrong_one(trial, call))
+    calls.iter().try_for_each(|call| try_wrong_one(trial, call))?;
+    let tolerance = trial.random.pick(&[0, 1, 1_000, 1_001]);
+    try_wrong_tolerant(trial, &Tolerant { slots, window, tolerance, area_bytes: [64; 2] })
 }
 
 /// Whether the state area and the answer area get a wrong length; one of the two does.
@@ -152,4 +155,29 @@ fn try_wrong_pair(trial: &mut Trial, pairs: &Pairs, wrong: &[bool; 3]) -> Step {
     let lengths = format!("{command} with state areas of {first} and {second} and an answer area of {answer} bytes");
     check_refusal(trial, number, states != states_before || outputs != outputs_before, &lengths)?;
     trial.judge.compare_stores(&command, pairs.second)
+}
+
+/// Tries a tolerant search of the present store, with a state area or an answer area of a wrong length, or with both.
+pub fn try_wrong_tolerant(trial: &mut Trial, call: &Tolerant) -> Step {
+    let wrong = [(true, false), (false, true), (true, true)];
+    wrong.into_iter().try_for_each(|(state, answer)| try_wrong_tolerance(trial, call, state, answer))
+}
+
+fn try_wrong_tolerance(trial: &mut Trial, call: &Tolerant, wrong_state: bool, wrong_answer: bool) -> Step {
+    let mut outputs = call.outputs();
+    let mut state = trial.areas().state.clone();
+    if wrong_state {
+        state.resize(wrong_length(Form::New, &mut trial.random), 0);
+    }
+    if wrong_answer {
+        let length = wrong_answer_length(outputs.answer.len(), &mut trial.random);
+        outputs.answer.resize(length, UNTOUCHED);
+    }
+    let (state_before, outputs_before) = (state.clone(), outputs.clone());
+    let Some(number) = trial.judge.tolerant_with(call, &state, &mut outputs) else { return Ok(()) };
+    let command = Command::Tolerant(call.clone());
+    let answer = outputs.answer.len();
+    let lengths = format!("{command} with a state area of {} and an answer area of {answer} bytes", state.len());
+    check_refusal(trial, number, state != state_before || outputs != outputs_before, &lengths)?;
+    trial.judge.compare_areas(&command)
 }

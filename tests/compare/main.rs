@@ -22,6 +22,8 @@ mod reached;
 mod shorten;
 mod stacks;
 mod states;
+mod tolerant;
+mod tolerated;
 mod trial;
 mod walks;
 
@@ -38,7 +40,7 @@ const USAGE: &str = "compare random SECONDS SEED FOLDER | compare fixed SCRIPT..
 
 type Kind = (&'static str, fn(&mut Trial) -> Step);
 const LARGE: Kind = ("large", lists::on_largest_chip);
-const KINDS: [Kind; 8] = [
+const KINDS: [Kind; 9] = [
     ("list", lists::short_or_long),
     ("damage", damage::rounds),
     ("state", states::rounds),
@@ -46,6 +48,7 @@ const KINDS: [Kind; 8] = [
     ("convert", convert::rounds),
     ("walk", walks::rounds),
     ("pairs", pairs::rounds),
+    ("tolerant", tolerant::rounds),
     LARGE,
 ];
 
@@ -53,7 +56,7 @@ const KINDS: [Kind; 8] = [
 fn kind_at(place: u64) -> Kind {
     match place {
         place if place % 1000 == 100 => LARGE,
-        place => KINDS[[0, 1, 4, 6, 0, 5, 1, 2, 0, 6, 4, 1, 3][(place % 13) as usize]],
+        place => KINDS[[0, 1, 4, 6, 7, 0, 5, 1, 2, 0, 6, 7, 4, 1, 3][(place % 15) as usize]],
     }
 }
 

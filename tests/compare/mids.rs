@@ -1,6 +1,6 @@
 //! Searches whose range ends at the mid of a bucket, one of whose children is damaged.
 use crate::damage::change_field;
-use crate::judge::Step;
+use crate::judge::{Difference, Step};
 use crate::trial::{Trial, BUCKETS, BUCKET_BYTES, TREE};
 use model::limits::{GREATEST_LOAD, LAST_TIME, LEAST_LOAD};
 use script::areas::SLOT_BYTES;
@@ -28,20 +28,24 @@ fn branches(tree: &[u8]) -> Vec<Branch> {
     branches
 }
 
-/// Damages the child of some branch, then searches a range that just takes it in or just leaves it out.
-pub fn search_beside_damage(trial: &mut Trial, slots: u64) -> Step {
+/// Damages the child of some branch, if there is one: the loads of a range that just takes it in or just leaves it out.
+pub fn damage_a_child(trial: &mut Trial, slots: u64) -> Result<Option<(i32, i32)>, Difference> {
     let slot = trial.random.index(slots as usize);
     let in_slot = slot * SLOT_BYTES + TREE;
     let (part, tree_at) = trial.random.pick(&[(Part::Nor, 0), (Part::Nand, in_slot)]);
     let branches = branches(&trial.areas().part(part)[tree_at..tree_at + BUCKETS * BUCKET_BYTES]);
     if branches.is_empty() {
-        return Ok(());
+        return Ok(None);
     }
     let branch = &branches[trial.random.index(branches.len())];
     let field = trial.random.pick(&[0, 4]);
     change_field(trial, part, tree_at + branch.child * BUCKET_BYTES + field, 4)?;
     let end = (branch.mid + trial.random.pick(&[0, 1])).clamp(LEAST_LOAD, GREATEST_LOAD);
-    let (k1, k2) = if branch.is_left { (end, GREATEST_LOAD) } else { (LEAST_LOAD, end) };
+    Ok(Some(if branch.is_left { (end, GREATEST_LOAD) } else { (LEAST_LOAD, end) }))
+}
+
+pub fn search_beside_damage(trial: &mut Trial, slots: u64) -> Step {
+    let Some((k1, k2)) = damage_a_child(trial, slots)? else { return Ok(()) };
     let window = Window { t1: 0, t2: LAST_TIME, k1, k2 };
     trial.call(Call::Search { slots, window, area_bytes: 32 * 320 })
 }

@@ -31,6 +31,11 @@ pub enum Loads {
         load: i32,
     },
     AtPlateEnds,
+    /// About some loads, at them or once or twice as far off as said, give or take one.
+    Apart {
+        centres: Vec<i32>,
+        apart: i32,
+    },
 }
 
 impl Loads {
@@ -56,6 +61,18 @@ impl Loads {
             14 => Loads::AtPlateEnds,
             _ => Loads::Even { load },
         }
+    }
+
+    /// At both limits, at one of them, or anywhere.
+    pub fn apart(apart: i32, random: &mut Random) -> Loads {
+        let anywhere = random.load(LEAST_LOAD, GREATEST_LOAD);
+        let centres = match random.below(4) {
+            0 => vec![LEAST_LOAD, GREATEST_LOAD],
+            1 => vec![random.pick(&[LEAST_LOAD, GREATEST_LOAD])],
+            2 => vec![anywhere],
+            _ => vec![LEAST_LOAD, 0, anywhere, GREATEST_LOAD],
+        };
+        Loads::Apart { centres, apart }
     }
 
     pub fn next(&mut self, random: &mut Random) -> i32 {
@@ -102,6 +119,10 @@ impl Loads {
                 *load
             }
             Loads::AtPlateEnds => near_plate_end(random),
+            Loads::Apart { centres, apart } => {
+                let load = random.pick(centres) + *apart * random.load(-2, 2) + random.load(-1, 1);
+                load.clamp(LEAST_LOAD, GREATEST_LOAD)
+            }
         }
     }
 }

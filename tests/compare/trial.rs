@@ -1,9 +1,9 @@
 //! A script under way: every command goes to the judge and into the record.
 use crate::judge::{Judge, Step};
 use crate::random::Random;
-use model::bytes::{found, pairs_found};
+use model::bytes::{found, pairs_found, tolerant_found};
 use script::areas::{Areas, PAGE_BYTES, SLOT_BYTES};
-use script::calls::{Call, Pairs, Window};
+use script::calls::{Call, Pairs, Tolerant, Window};
 use script::command::{Command, Field, Fill, Part};
 use script::form::Form;
 
@@ -88,6 +88,11 @@ impl<'a> Trial<'a> {
     pub fn pairs_found(&self, pairs: &Pairs) -> usize {
         let second = self.judge.store(pairs.second);
         pairs_found((self.areas(), pairs.slots), (second, pairs.second_slots)).map_or(0, |pairs| pairs.len())
+    }
+
+    /// How many certain and possible lifts a tolerant search would find, 0 of each if it would be refused.
+    pub fn tolerant_found(&self, call: &Tolerant) -> [usize; 2] {
+        tolerant_found(self.areas(), call).map_or([0; 2], |lists| lists.each_ref().map(Vec::len))
     }
 
     /// How many rows a search would find, 0 if it would be refused.

@@ -1,4 +1,4 @@
-//! Document 01, with W-201 to W-208, read a second time: the paper log, the programs' inputs, and an expectation of every
+//! Document 01, with W-201 to W-209, read a second time: the paper log, the programs' inputs, and an expectation of every
 //! byte.
 pub mod answers;
 pub mod bytes;
@@ -11,3 +11,4 @@ pub mod plate;
 pub mod service_page;
 pub mod split;
 pub mod stacks;
+pub mod tolerant;

@@ -7,6 +7,8 @@ pub const LEAST_LOAD: i32 = -50_000;
 pub const GREATEST_LOAD: i32 = 100_000;
 /// Stored load = load + this; also the lower end of the root range, below zero.
 pub const LOAD_SHIFT: i64 = 50_001;
+/// "d from 0 to 1,000" (W-209)
+pub const MOST_TOLERANCE: u64 = 1_000;
 pub const LAST_SERIAL: u32 = 999_999_999;
 pub const SEGMENT_LIFTS: usize = 320;
 pub const SEGMENT_BUCKETS: usize = 36;
@@ -31,6 +33,7 @@ pub const OTHER_FORM: u8 = 13;
 pub const NO_WAY_BACK: u8 = 14;
 pub const NO_STACK: u8 = 15;
 pub const TOO_MANY_PAIRS: u8 = 16;
+pub const TOLERANCE_LIMIT: u8 = 17;
 
 /// What a call gives, or the number of the first ground against it.
 pub type Outcome<T> = Result<T, u8>;

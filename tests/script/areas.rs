@@ -152,7 +152,7 @@ impl World {
                     self.selected = kept.selected;
                 }
             }
-            Command::Call(..) | Command::Carry(_) | Command::Pairs(_) | Command::Gen(_) => {}
+            Command::Call(..) | Command::Carry(_) | Command::Pairs(_) | Command::Tolerant(_) | Command::Gen(_) => {}
             Command::Rows | Command::Dump { .. } | Command::Changed => {}
         }
     }

@@ -107,7 +107,41 @@ impl Pairs {
     }
 }
 
-/// The two areas that a call writes its answer into.
+/// W-209: a search of the selected store whose loads are good to `tolerance` units.
+#[derive(Clone, Debug, PartialEq)]
+pub struct Tolerant {
+    pub slots: u64,
+    pub window: Window,
+    pub tolerance: u64,
+    /// Of the area for certain lifts and of that for possible ones.
+    pub area_bytes: [usize; 2],
+}
+
+impl Tolerant {
+    pub const NAME: &'static str = "tolerant";
+
+    pub fn outputs(&self) -> TolerantOutputs {
+        let lists = self.area_bytes.map(|bytes| vec![UNTOUCHED; bytes]);
+        TolerantOutputs { lists, answer: vec![UNTOUCHED; 16] }
+    }
+}
+
+/// The three areas that a tolerant search writes into.
+#[derive(Clone, Debug, PartialEq)]
+pub struct TolerantOutputs {
+    /// The rows of the certain lifts, and those of the possible ones.
+    pub lists: [Vec<u8>; 2],
+    /// Both counts, of eight bytes each.
+    pub answer: Vec<u8>,
+}
+
+impl TolerantOutputs {
+    pub fn counts(&self) -> [u64; 2] {
+        [0, 8].map(|offset| u64::from_le_bytes(self.answer[offset..offset + 8].try_into().unwrap()))
+    }
+}
+
+/// The two areas that any other call writes its answer into.
 #[derive(Clone, Debug, PartialEq)]
 pub struct Outputs {
     pub rows: Vec<u8>,
@@ -150,6 +184,9 @@ pub trait Store {
 
     /// Both stores are only read, and may be one and the same.
     fn pairs(&mut self, pairs: &Pairs, first: &Areas, second: &Areas, outputs: &mut Outputs) -> u8;
+
+    /// The store is only read.
+    fn tolerant(&mut self, tolerant: &Tolerant, areas: &Areas, outputs: &mut TolerantOutputs) -> u8;
 
     /// What the generator of W-205 prints for an input; an error tells why it does not come to its end.
     fn generate(&mut self, input: &[u8]) -> Result<Vec<u8>, String>;

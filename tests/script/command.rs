@@ -1,5 +1,5 @@
 //! One line of a script as a value, and its text.
-use crate::calls::{Call, Carry, Pairs, Window};
+use crate::calls::{Call, Carry, Pairs, Tolerant, Window};
 use crate::form::Form;
 use std::fmt;
 
@@ -16,7 +16,8 @@ impl Part {
     }
 }
 
-/// What `dump` prints bytes of: an area of the store, or the result area of the last search or of the last pairs.
+/// What `dump` prints bytes of: an area of the store, or the result area of the last search or of the last pairs; of a
+/// tolerant search the area of the certain lifts.
 #[derive(Clone, Copy, Debug, PartialEq)]
 pub enum Shown {
     Part(Part),
@@ -101,6 +102,7 @@ pub enum Command {
     Call(Form, Call),
     Carry(Carry),
     Pairs(Pairs),
+    Tolerant(Tolerant),
     Gen(Vec<u8>),
     Rows,
     Dump { shown: Shown, offset: usize, length: usize },
@@ -134,12 +136,17 @@ impl fmt::Display for Call {
         match self {
             Call::Format { slots } | Call::Close { slots } | Call::Drop { slots } => write!(out, "{slots}"),
             Call::Append { slots, time, load, note } => write!(out, "{slots} {time} {load} {}", hex(note)),
-            Call::Search { slots, window: Window { t1, t2, k1, k2 }, area_bytes } => {
-                write!(out, "{slots} {t1} {t2} {k1} {k2} {area_bytes}")
-            }
+            Call::Search { slots, window, area_bytes } => write!(out, "{slots} {window} {area_bytes}"),
             Call::Tally { slots, t1, t2 } | Call::Page { slots, t1, t2 } => write!(out, "{slots} {t1} {t2}"),
             Call::Plate { place, load } => write!(out, "{place} {load}"),
         }
+    }
+}
+
+impl fmt::Display for Window {
+    fn fmt(&self, out: &mut fmt::Formatter) -> fmt::Result {
+        let Window { t1, t2, k1, k2 } = self;
+        write!(out, "{t1} {t2} {k1} {k2}")
     }
 }
 
@@ -156,6 +163,9 @@ impl fmt::Display for Command {
             Command::Carry(carry) => write!(out, "{} {} {}", carry.name(), carry.slots, carry.second),
             Command::Pairs(Pairs { slots, second, second_slots, area_bytes }) => {
                 write!(out, "{} {slots} {second} {second_slots} {area_bytes}", Pairs::NAME)
+            }
+            Command::Tolerant(Tolerant { slots, window, tolerance, area_bytes: [certain, possible] }) => {
+                write!(out, "{} {slots} {window} {tolerance} {certain} {possible}", Tolerant::NAME)
             }
             Command::Gen(input) if input.is_empty() => write!(out, "gen -"),
             Command::Gen(input) => write!(out, "gen {}", hex(input)),

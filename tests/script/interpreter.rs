@@ -1,6 +1,6 @@
 //! Runs a script over a store and writes the lines that answer it.
 use crate::areas::{Areas, World, PAGE_BYTES, SLOT_BYTES};
-use crate::calls::{Call, Carry, Outputs, Pairs, Store, ROW_BYTES};
+use crate::calls::{Call, Carry, Outputs, Pairs, Store, Tolerant, ROW_BYTES};
 use crate::command::{command_name, hex, Command, Shown};
 use crate::form::Form;
 use crate::hash::{copy_changed, fnv1a, KeptHash};
@@ -48,6 +48,7 @@ impl<S: Store> Interpreter<S> {
             Command::Call(form, call) => self.call(*form, call),
             Command::Carry(carry) => self.carry(carry),
             Command::Pairs(pairs) => self.pairs(pairs),
+            Command::Tolerant(tolerant) => self.tolerant(tolerant),
             Command::Gen(input) => format!("gen {}\n", hex(&self.store.generate(input)?)),
             Command::Rows => self.rows(),
             Command::Dump { shown, offset, length } => {
@@ -88,6 +89,20 @@ impl<S: Store> Interpreter<S> {
         let line = format!("{} {number} {count} {:016x}\n", Pairs::NAME, fnv1a(&outputs.rows));
         self.result_area = outputs.rows;
         line
+    }
+
+    /// `rows` goes on to print those of the last search.
+    fn tolerant(&mut self, tolerant: &Tolerant) -> String {
+        self.remember_chips();
+        let mut outputs = tolerant.outputs();
+        let number = self.store.tolerant(tolerant, &self.world.areas, &mut outputs);
+        let counts = if number == 0 { outputs.counts() } else { [0; 2] };
+        let mut line = format!("{} {number}", Tolerant::NAME);
+        for (count, list) in counts.iter().zip(&outputs.lists) {
+            line += &format!(" {count} {:016x}", fnv1a(list));
+        }
+        [self.result_area, _] = outputs.lists;
+        line + "\n"
     }
 
     fn call(&mut self, form: Form, call: &Call) -> String {

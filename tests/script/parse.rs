@@ -1,6 +1,6 @@
 //! Reads one line of a script.
 use crate::areas::STORES;
-use crate::calls::{Call, Carry, Pairs, Window};
+use crate::calls::{Call, Carry, Pairs, Tolerant, Window};
 use crate::command::{Command, Field, Fill, Part, Shown};
 use crate::form::Form;
 use std::str::{FromStr, SplitWhitespace};
@@ -97,6 +97,11 @@ impl<'a> Words<'a> {
         Ok(Command::Pairs(Pairs { slots, second, second_slots: self.number()?, area_bytes: self.number()? }))
     }
 
+    fn tolerant(&mut self) -> Result<Command, String> {
+        let (slots, window, tolerance) = (self.number()?, self.window()?, self.number()?);
+        Ok(Command::Tolerant(Tolerant { slots, window, tolerance, area_bytes: [self.number()?, self.number()?] }))
+    }
+
     fn command(&mut self) -> Result<Command, String> {
         match self.word()? {
             "use" => self.store().map(Command::Use),
@@ -116,6 +121,7 @@ impl<'a> Words<'a> {
             "forward" => self.carry(Form::New),
             "backward" => self.carry(Form::Old),
             Pairs::NAME => self.pairs(),
+            Tolerant::NAME => self.tolerant(),
             "gen" => self.input().map(Command::Gen),
             name => self.call_of_form(name),
         }

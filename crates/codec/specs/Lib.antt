@@ -1,2 +1,3 @@
 pub mod Area
 pub mod Number
+pub mod Lists

@@ -7,3 +7,4 @@ pub mod Counts
 pub mod PagesMost
 pub mod Placed
 pub mod All
+pub mod InRange

@@ -19,13 +19,13 @@ use Rattle.visit.specs.declared.Closed.{Closed}
 use Rattle.visit.specs.declared.Log.{Log}
 use Rattle.visit.specs.declared.Query.{Query}
 use Rattle.visit.specs.Visit.{rowsAt, closedMatches, closedLifts, closedRows, openMatches, openLifts, openRows}
-use Rattle.visit.specs.Inner.Sound.{ClosedSound, closedRecords}
+use Rattle.visit.specs.Inner.Sound.{ClosedSound, LogSound, closedRecords, openRecords}
 use Rattle.visit.proofs.Emptying.{recorded-at}
 use Rattle.visit.proofs.Matched.{Places, matches-places}
-use Rattle.visit.proofs.Areas.{closed-recorded}
+use Rattle.visit.proofs.Areas.{closed-recorded, open-recorded}
 use Rattle.found.specs.declared.Pages.{Pages}
 use Rattle.found.specs.Inner.Turns.{rowsIn, countOf, countedWith}
-use Rattle.found.proofs.Wide.{Wide}
+use Rattle.found.proofs.Wide.{AllIn, Wide}
 
 -- at most 320 rows; rows of 32 bytes
 abbrev pub FewIn : Option (List (List ℕ)) → Type 0
@@ -33,8 +33,7 @@ FewIn none = Unit {0}
 FewIn (some rows) = length rows ≤ 320
 
 abbrev pub WideIn : Option (List (List ℕ)) → Type 0
-WideIn none = Unit {0}
-WideIn (some rows) = Wide 32 rows
+WideIn o = AllIn (λ r. length r ≡ 32) o
 
 -- ---- the rows of any matches
 
@@ -154,6 +153,17 @@ module _ (nand nor page : List ℕ) (g : Log) (q : Query) where
 
     pub open-below : Below (g .count) (members (m .set .words))
     open-below = rows-below (g .count) (λ p. []) m (openMatches nand nor page g q) open-places is
+
+  pub open-wide : LogSound nand nor g → length page ≡ 512 → WideIn (openRows nand nor page g q)
+  unfolding openRows
+  open-wide sound size = go (eqb (g .count) 0)
+    where
+      go : (b : Bool) → WideIn (cond b (some [])
+          (rowsAt (recordIn (openLifts nand g) page (inFullPages (g .count))) (openMatches nand nor page g q)))
+      go true = tt
+      go false =
+          rows-wide (g .count) _ (λ p h. record-size (openLifts nand g) page (openRecords g) (open-recorded nand nor g sound page size) p h)
+          (openMatches nand nor page g q) open-places
 
   pub open-few : FewIn (openRows nand nor page g q)
   unfolding openRows

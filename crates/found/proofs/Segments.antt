@@ -8,6 +8,7 @@ use Rattle.skiplist.specs.Skip.{Live}
 use Rattle.visit.specs.declared.Closed.{Closed}
 use Rattle.visit.specs.declared.Query.{Query}
 use Rattle.visit.specs.Visit.{closedRows, treeRead}
+use Rattle.visit.specs.Inner.Sound.{ClosedSound}
 use Rattle.walk.specs.declared.Cursor.{Cursor}
 use Rattle.walk.specs.declared.Step.{Step}
 use Rattle.walk.specs.declared.Step.the-variants.{End, Damage, Pass, Visit}
@@ -17,14 +18,9 @@ use Rattle.walk.proofs.Steps.{StepFacts, step-facts}
 use Rattle.found.specs.Found.{joinRows, rowsFrom}
 use Rattle.found.specs.Pages.{Read, bloomAt, readFrom}
 use Rattle.found.specs.Inner.Turns.{rowsAfter, readAfter}
-use Rattle.found.proofs.Wide.{wide-append}
+use Rattle.found.proofs.Wide.{AllIn, all-join}
 use Rattle.found.proofs.Matched.{WideIn, closed-wide}
 use Rattle.found.proofs.Falling as F
-
-wide-join : (older newer : Option (List (List ℕ))) → WideIn older → WideIn newer → WideIn (joinRows older newer)
-wide-join none newer a b = tt
-wide-join (some older) none a b = tt
-wide-join (some older) (some newer) a b = wide-append 32 older newer a b
 
 module _ (nand : List ℕ) (slots : ℕ) (live : Live) (q : Query) (size : length nand ≡ slots * 16384) where
   -- ---- rows
@@ -59,19 +55,21 @@ module _ (nand : List ℕ) (slots : ℕ) (live : Live) (q : Query) (size : lengt
       same (Pass d) = refl
       same (Visit s d) = refl
 
-  from-wide : (n : ℕ) (c : Cursor) → Sound slots c → WideIn (from n c)
-  unfolding rowsFrom
-  from-wide zero c sound = tt
-  from-wide (suc n) c sound =
-      rw (from-step n c (advanceOf nand slots live q c) refl)
-      (go (advanceOf nand slots live q c) (step-facts nand slots live q c size sound) (λ d. from-wide n d))
-    where
-      go : (s : Step) → StepFacts nand slots (c .before) s → ((d : Cursor) → Sound slots d → WideIn (from n d))
-          → WideIn (after (from n) c s)
-      go End f ih = tt
-      go Damage f ih = tt
-      go (Pass d) f ih = ih d (f .sound)
-      go (Visit s d) f ih = wide-join (from n d) (closedRows nand s q) (ih d (f .1 .sound)) (closed-wide nand s q (f .0))
+  -- what holds of every row of a closed segment holds of all of them
+  module _ (P : List ℕ → Type 0) (each : (s : Closed) → ClosedSound nand s → AllIn P (closedRows nand s q)) where
+    pub from-all : (n : ℕ) (c : Cursor) → Sound slots c → AllIn P (from n c)
+    unfolding rowsFrom
+    from-all zero c sound = tt
+    from-all (suc n) c sound =
+        rw (from-step n c (advanceOf nand slots live q c) refl)
+        (go (advanceOf nand slots live q c) (step-facts nand slots live q c size sound) (λ d. from-all n d))
+      where
+        go : (s : Step) → StepFacts nand slots (c .before) s → ((d : Cursor) → Sound slots d → AllIn P (from n d))
+            → AllIn P (after (from n) c s)
+        go End f ih = tt
+        go Damage f ih = tt
+        go (Pass d) f ih = ih d (f .sound)
+        go (Visit s d) f ih = all-join P (from n d) (closedRows nand s q) (ih d (f .1 .sound)) (each s (f .0))
 
   -- ---- pages
 
@@ -113,9 +111,13 @@ module _ (nand : List ℕ) (slots : ℕ) (live : Live) (q : Query) (size : lengt
     unfolding readAfter
     read-any n h = F.from-any nand slots live q size [] [] passRead visitRead reads read-step c sound n h
 
-    pub rows-wide : WideIn (rowsAfter nand slots live q c)
+    pub rows-all : (P : List ℕ → Type 0) → ((s : Closed) → ClosedSound nand s → AllIn P (closedRows nand s q))
+        → AllIn P (rowsAfter nand slots live q c)
     unfolding rowsAfter
-    rows-wide = from-wide (c .before + 1) c sound
+    rows-all P each = from-all P each (c .before + 1) c sound
+
+    pub rows-wide : WideIn (rowsAfter nand slots live q c)
+    rows-wide = rows-all (λ r. length r ≡ 32) (λ s h. closed-wide nand s q h)
 
     pub rows-end : advanceOf nand slots live q c ≡ End → rowsAfter nand slots live q c ≡ some []
     unfolding rowsAfter

@@ -2,14 +2,15 @@
 -- nothing.
 use mathlib.Core.Path.{_≡_, refl, sym, ap}
 use mathlib.Core.Bool.{Bool, true, false, cond}
-use mathlib.Core.Option.{none, some}
+use mathlib.Core.Option.{some}
 use mathlib.Core.List.{List, [], _∷_}
 use Prim.Native.Nat.{ℕ, _≤_}
 use native.Mathlib.Omega.{arith}
 use lib.Dec.{eqb}
 use Rattle.lift.specs.Record.{timeAt, memberAt}
 use Rattle.supersets.specs.Pairs.{firstFit, withoutFit, joins}
-use Rattle.supersets.proofs.Leaving.{keeping, fitsAny}
+use Rattle.codec.specs.Lists.{chosen}
+use Rattle.supersets.proofs.Leaving.{fitsAny}
 use Rattle.whole_log.specs.Inner.Rising.{Rising}
 use Rattle.joining.specs.declared.look.Fit.{Fit}
 use Rattle.joining.specs.declared.look.Fit.the-variants.{Behind, Ahead, Joins, Other}
@@ -80,8 +81,8 @@ module _ (a : List ℕ) (named : eqb (memberAt a 0) 0 ≡ false) where
 
   -- what is left differs only by lifts that none of the later ones joins
   pub left-rising : (later : List (List ℕ)) → NoneBefore (timeAt a 0) later → (bs : List (List ℕ)) (t : ℕ) → Rising t bs
-      → keeping (fitsAny joins later) (leftOf true fitted bs) ≡ keeping (fitsAny joins later) (withoutFit joins a bs)
-  unfolding leftOf withoutFit keeping
+      → chosen (fitsAny joins later) (leftOf true fitted bs) ≡ chosen (fitsAny joins later) (withoutFit joins a bs)
+  unfolding leftOf withoutFit chosen
   left-rising later n [] t r = refl
   left-rising later n (b ∷ bs) t r = go (fitted b) refl (joins-is a b true named) (left-rising later n bs (timeAt b 0) (r .1))
     where
@@ -89,10 +90,10 @@ module _ (a : List ℕ) (named : eqb (memberAt a 0) 0 ≡ false) where
       use' c = fitsAny joins later c
 
       go : (f : Fit) → fitted b ≡ f → joins a b ≡ isJoins f
-          → keeping use' (leftOf true fitted bs) ≡ keeping use' (withoutFit joins a bs)
-          → keeping use' (leftBy true fitted f b bs (leftOf true fitted bs)) ≡ keeping use' (cond (joins a b) bs (b ∷ withoutFit joins a bs))
+          → chosen use' (leftOf true fitted bs) ≡ chosen use' (withoutFit joins a bs)
+          → chosen use' (leftBy true fitted f b bs (leftOf true fitted bs)) ≡ chosen use' (cond (joins a b) bs (b ∷ withoutFit joins a bs))
       go Behind d e ih = rw (e, behind-none (timeAt a 0) b (fit-behind a b true d) later n) ih
-      go Ahead d e ih = ap (keeping use') (sym (ahead-without a b bs t r (fit-ahead a b true d)))
+      go Ahead d e ih = ap (chosen use') (sym (ahead-without a b bs t r (fit-ahead a b true d)))
       go Joins d e ih = rw e
       go Other d e ih = rw (e, ih)
 

@@ -32,3 +32,14 @@ four-kept s t u v w a b c d l e f g h =
     let three = put-next (bytes 8) 8 wide s u v 0 xs 2 16 0 c (omega arith) (omega arith) (omega arith) two refl g in
     let all = put-next (bytes 8) 8 wide s v w 0 xs 3 24 0 d (omega arith) (omega arith) (omega arith) three refl h in
     put-all (bytes 8) 8 wide s w 0 xs 4 (omega arith) all ∙ splice-all s _ (length-side (bytes 8) 8 wide xs ∙ omega arith)
+
+-- and two fill 16
+pub two-kept : (s t u : List ℕ) (a b : ℕ) → length s ≡ 16 → t ≡ splice s 0 (bytes 8 a) → u ≡ splice t 8 (bytes 8 b)
+    → u ≡ sideBySide (bytes 8) (a ∷ b ∷ [])
+two-kept s t u a b l e f =
+    let xs : List ℕ = a ∷ b ∷ [] in
+    let wide = length-bytes 8 in
+    let one = put-next (bytes 8) 8 wide s s t 0 xs 0 0 0 a (omega arith) (omega arith) (omega arith)
+    (put-none (bytes 8) 8 wide s 0 xs (omega arith)) refl e in
+    let all = put-next (bytes 8) 8 wide s t u 0 xs 1 8 0 b (omega arith) (omega arith) (omega arith) one refl f in
+    put-all (bytes 8) 8 wide s u 0 xs 2 (omega arith) all ∙ splice-all s _ (length-side (bytes 8) 8 wide xs ∙ omega arith)

@@ -22,6 +22,9 @@ pub const NUMBER_BYTES: usize = 8;
 // A search's count and its three counts of pages.
 pub const SEARCH_BYTES: usize = 32;
 
+// The two counts of a tolerant search.
+pub const TOLERANT_BYTES: usize = 16;
+
 // The next state goes into its area if the call was accepted.
 pub fn keep_state(area: &mut [u8], a: Answer) -> u8
     requires { ⌜ length (now area) ≡ areaLength New ⌝ }
@@ -68,6 +71,17 @@ pub fn keep_search(answer: &mut [u8], number: u8, count: u64, headers: u64, bloo
         codec::put_u64(answer, 8, headers);
         codec::put_u64(answer, 16, bloom);
         codec::put_u64(answer, 24, tree);
+    }
+}
+
+// The counts of a tolerant search go into the area of the answer if it was accepted.
+pub fn keep_both(answer: &mut [u8], number: u8, certain: u64, possible: u64)
+    requires { ⌜ length (now answer) ≡ 16 ⌝ }
+    ensures { λ _. ⌜ now (answer .exit) ≡ kept number (sideBySide (bytes 8) (certain ∷ possible ∷ [])) (now (answer .entry)) ⌝ }
+{
+    if number == 0 {
+        codec::put_u64(answer, 0, certain);
+        codec::put_u64(answer, 8, possible);
     }
 }
 

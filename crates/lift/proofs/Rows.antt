@@ -9,8 +9,8 @@ use lib.ListN.{length}
 use Rattle.codec.specs.Area.{part}
 use Rattle.codec.specs.Number.{le, numberAt}
 use Rattle.codec.proofs.Areas.{length-part, part-part}
-use Rattle.lift.specs.Record.{timeAt, memberAt}
-use Rattle.lift.specs.Rows.{timeIn, memberIn, recordIn}
+use Rattle.lift.specs.Record.{timeAt, codeAt, memberAt}
+use Rattle.lift.specs.Rows.{timeIn, codeIn, memberIn, recordIn}
 
 -- a number of a record
 number-of : (s : List ℕ) (at k to n : ℕ) → at + k ≡ to → at + 32 ≤ length s → k + n ≤ 32 → numberAt (part s at 32) k n ≡ numberAt s to n
@@ -25,6 +25,15 @@ module _ (lifts tail : List ℕ) (first p : ℕ) (before : p * 32 + 32 ≤ lengt
           ≡ cond b (timeAt lifts (p * 32)) (timeAt tail ((p - first) * 32))
       go true = number-of lifts (p * 32) 0 _ 8 (omega arith) before (omega arith)
       go false = number-of tail ((p - first) * 32) 0 _ 8 (omega arith) behind (omega arith)
+
+  pub code-of-record : codeAt (recordIn lifts tail first p) 0 ≡ codeIn lifts tail first p
+  unfolding recordIn codeIn
+  code-of-record = go (ltb p first)
+    where
+      go : (b : Bool) → codeAt (cond b (part lifts (p * 32) 32) (part tail ((p - first) * 32) 32)) 0
+          ≡ cond b (codeAt lifts (p * 32)) (codeAt tail ((p - first) * 32))
+      go true = number-of lifts (p * 32) 8 _ 4 refl before (omega arith)
+      go false = number-of tail ((p - first) * 32) 8 _ 4 refl behind (omega arith)
 
   pub member-of-record : memberAt (recordIn lifts tail first p) 0 ≡ memberIn lifts tail first p
   unfolding recordIn memberIn

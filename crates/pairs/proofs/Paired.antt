@@ -13,7 +13,8 @@ use Rattle.lift.proofs.Rows.{record-length}
 use Rattle.visit.specs.declared.Log.{Log}
 use Rattle.visit.specs.declared.Query.{Query}
 use Rattle.visit.proofs.Emptying.{recorded-at}
-use Rattle.found.proofs.Wide.{Wide, wide-append}
+use Rattle.codec.proofs.Lists.{all-append}
+use Rattle.found.proofs.Wide.{Wide}
 use Rattle.search.specs.Answers.{rowBytes}
 use Rattle.supersets.specs.Pairs.{firstFit, withoutFit, pairWith, pairsOf, sideBySide, joins, pairRows}
 use Rattle.whole_log.specs.Inner.Held.{rowsOn, placesIn, recordsAt, rowAt, rowsHeld, setFor, Room, Held}
@@ -71,7 +72,7 @@ module _ (nand page : List ℕ) (g : Log) (way : List ℕ) (places : ℕ → Lis
   unfolding rowsOn
   wide-rows zero i h b = tt
   wide-rows (suc n) i h b =
-      wide-append 32 (map (rowAt nand page g way i) (places i)) (rowsOn (rowAt nand page g way) places (suc i) n)
+      all-append (λ r. length r ≡ 32) (map (rowAt nand page g way i) (places i)) (rowsOn (rowAt nand page g way) places (suc i) n)
       (wide-places i (h i (omega arith) (omega arith)) (places i) (b i (omega arith) (omega arith)))
       (wide-rows n (suc i) (λ k l m. h k (omega arith) (omega arith)) (λ k l m. b k (omega arith) (omega arith)))
 

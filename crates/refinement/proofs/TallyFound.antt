@@ -21,7 +21,7 @@ use Rattle.bounds.specs.Grounds.{queryGround}
 use Rattle.store.specs.World.{livenessOf}
 use Rattle.questions.specs.Queries.{logOf, queryOf, tallyOutcome}
 use Rattle.paper_log.specs.Calls as Paper
-use Rattle.paper_log.specs.Log.{Lift, codes, wanted, among, joined, found, rowOf}
+use Rattle.paper_log.specs.Log.{Lift, codes, wanted, among, joined, retained, found, rowOf}
 use Rattle.refinement.specs.Inner.Image.{History, image}
 use Rattle.refinement.proofs.Good.{GoodLift, GoodLifts, AllBuilt, Good}
 use Rattle.refinement.proofs.SearchStep.{windowGround, ground-is, found-if}
@@ -46,15 +46,17 @@ good-among t1 t2 k1 k2 (l ∷ ls) g = go (wanted t1 t2 k1 k2 l) (good-among t1 t
     go true r = (g .0, r)
     go false r = r
 
+pub good-retained : (h : History) → Good h → GoodLifts (retained (h .log))
+good-retained h g =
+    good-append (joined (h .log .closed)) (h .log .current) (good-joined (h .log .closed) (g .segments)) (g .segment .lifts)
+
 pub good-found : (h : History) → Good h → (t1 t2 : ℕ) (k1 k2 : ℤ) → GoodLifts (found (h .log) t1 t2 k1 k2)
 unfolding found
-good-found h g t1 t2 k1 k2 =
-    good-among t1 t2 k1 k2 (joined (h .log .closed) ++ h .log .current)
-    (good-append (joined (h .log .closed)) (h .log .current) (good-joined (h .log .closed) (g .segments)) (g .segment .lifts))
+good-found h g t1 t2 k1 k2 = good-among t1 t2 k1 k2 (retained (h .log)) (good-retained h g)
 
 -- ---- the loads of their rows
 
-row-code : (l : Lift) → GoodLift l → codeAt (rowOf l) 0 ≡ stored (l .load)
+pub row-code : (l : Lift) → GoodLift l → codeAt (rowOf l) 0 ≡ stored (l .load)
 row-code l g =
     let n = length-record (l .time) (stored (l .load)) (l .note) (g .note) in
     let k = within-limits (l .load) (g .load) in

@@ -1,5 +1,5 @@
 // The answer of a search (document 01, "Search"): what is found is counted first, then written.
-mod write;
+pub mod write;
 
 use found::DAMAGE;
 use found::Pages;
@@ -17,7 +17,7 @@ ghost use Rattle.found.specs.Pages.{pagesRead, noPages};
 ghost use Rattle.search.specs.Answers.{SearchAnswer, searchAnswer};
 
 // Ground 12: the lifts found outnumber the whole rows of the result area.
-const TOO_SMALL: u8 = 12;
+pub const TOO_SMALL: u8 = 12;
 
 // The number, how many were found, and the pages read.
 pub struct Found {

@@ -20,8 +20,9 @@ use Rattle.store.specs.Calls.{Outcome}
 use Rattle.loads.specs.Signed.{sideBySide}
 use Rattle.state_bytes.specs.StateBytes.{stateBytes, stateAs, stateIn}
 use Rattle.pairs.specs.Answers.{PairsAnswer}
+use Rattle.tolerant.specs.Answers.{TolerantAnswer}
 use Rattle.kept.specs.Kept.{kept}
-use Rattle.store_abi.specs.Areas.{left, leaves, newBytes, called, Answered, replied, repliedIn}
+use Rattle.store_abi.specs.Areas.{left, leaves, newBytes, called, Answered, replied, inLengths, repliedBoth}
 
 -- ---- two lengths
 
@@ -70,19 +71,18 @@ one-wrong m n a b h = sym (ap (λ t. cond t a b) (ne-eqb m n h))
 pub one-right : (m n : ℕ) (a b : Answered) → m ≡ n → a ≡ cond (eqb m n) a b
 one-right m n a b h = sym (ap (λ t. cond t a b) (eq-eqb m n h))
 
-module _ (area answer : List ℕ) (n : ℕ) (rows : List ℕ) (a : Answered) where
-  by : (t : Bool) → (eqb (length area) 783 && eqb (length answer) n) ≡ t
-      → cond t a (replied 20 rows answer) ≡ repliedIn area answer n rows a
-  unfolding repliedIn
-  by t e = sym (ap (λ u. cond u a (replied 20 rows answer)) e)
+module _ {A : Type 0} (area answer : List ℕ) (n : ℕ) (a refused : A) where
+  by : (t : Bool) → (eqb (length area) 783 && eqb (length answer) n) ≡ t → cond t a refused ≡ inLengths area answer n a refused
+  unfolding inLengths
+  by t e = sym (ap (λ u. cond u a refused) e)
 
-  pub state-wrong : (length area ≡ 783 → ⊥) → replied 20 rows answer ≡ repliedIn area answer n rows a
+  pub state-wrong : (length area ≡ 783 → ⊥) → refused ≡ inLengths area answer n a refused
   state-wrong h = by false (first-wrong (length area) 783 (length answer) n h)
 
-  pub answer-wrong : length area ≡ 783 → (length answer ≡ n → ⊥) → replied 20 rows answer ≡ repliedIn area answer n rows a
+  pub answer-wrong : length area ≡ 783 → (length answer ≡ n → ⊥) → refused ≡ inLengths area answer n a refused
   answer-wrong e h = by false (second-wrong (length area) 783 (length answer) n e h)
 
-  pub both-right : length area ≡ 783 → length answer ≡ n → a ≡ repliedIn area answer n rows a
+  pub both-right : length area ≡ 783 → length answer ≡ n → a ≡ inLengths area answer n a refused
   both-right e h = by true (both-equal (length area) 783 (length answer) n e h)
 
 -- a search's count and pages, side by side
@@ -109,3 +109,14 @@ pub pairs-left : (o : PairsAnswer) (n c : ℕ) (rows answer answer' : List ℕ)
     → _≡_ {A = PairsAnswer} (record { number = n; count = c; area = rows }) o → answer' ≡ kept n (bytes 8 c) answer
     → replied n rows answer' ≡ replied (o .number) (o .area) (kept (o .number) (bytes 8 (o .count)) answer)
 pairs-left o n c rows answer answer' e f = rw (f, ← e)
+
+-- both lists of a tolerant search, and their counts
+abbrev bothNumbers : ℕ → ℕ → List ℕ
+bothNumbers certain possible = sideBySide (bytes 8) (certain ∷ possible ∷ [])
+
+pub tolerant-left : (o : TolerantAnswer) (n c p : ℕ) (certain possible answer answer' : List ℕ)
+    → _≡_ {A = TolerantAnswer} (record { number = n; certain = c; possible = p; certain-area = certain; possible-area = possible }) o
+    → answer' ≡ kept n (bothNumbers c p) answer
+    → repliedBoth n certain possible answer'
+    ≡ repliedBoth (o .number) (o .certain-area) (o .possible-area) (kept (o .number) (bothNumbers (o .certain) (o .possible)) answer)
+tolerant-left o n c p certain possible answer answer' e f = rw (f, ← e)

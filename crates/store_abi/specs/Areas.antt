@@ -15,6 +15,7 @@ use Rattle.store.specs.World.{World, world}
 use Rattle.store.specs.Calls.{Outcome, formatOutcome, appendOutcome, closeOutcome, dropOutcome}
 use Rattle.questions.specs.Queries.{searchOutcome, tallyOutcome}
 use Rattle.pairs.specs.Call.{pairsOutcome}
+use Rattle.tolerant.specs.Call.{tolerantOutcome}
 use Rattle.service_page.specs.Page.{pageBytes, pageOf}
 use Rattle.loads.specs.Signed.{sideBySide}
 use Rattle.conversion.specs.Outcome.{forwardOutcome, backwardOutcome}
@@ -88,8 +89,11 @@ abbrev pub replied : ℕ → List ℕ → List ℕ → Answered
 replied number rows answer = record { number = number; rows = rows; answer = answer }
 
 -- number 20, before everything else: the state's area has another length, or the answer's area another than n
-unfoldable pub repliedIn : List ℕ → List ℕ → ℕ → List ℕ → Answered → Answered
-repliedIn area answer n rows a = cond (eqb (length area) (areaLength New) && eqb (length answer) n) a (replied 20 rows answer)
+unfoldable pub inLengths : {A : Type 0} → List ℕ → List ℕ → ℕ → A → A → A
+inLengths area answer n a refused = cond (eqb (length area) (areaLength New) && eqb (length answer) n) a refused
+
+abbrev pub repliedIn : List ℕ → List ℕ → ℕ → List ℕ → Answered → Answered
+repliedIn area answer n rows a = inLengths area answer n a (replied 20 rows answer)
 
 -- the count, then the header, Bloom and tree pages read, in 8 bytes each
 unfoldable pub searchCalled : List ℕ → List ℕ → List ℕ → ℕ → ℕ → ℕ → ℤ → ℤ → List ℕ → List ℕ → Answered
@@ -105,6 +109,25 @@ pairsCalled first nand1 nor1 slots1 second nand2 nor2 slots2 rows answer =
     cond (eqb (length first) (areaLength New))
     (repliedIn second answer 8 rows (replied (o .number) (o .area) (kept (o .number) (bytes 8 (o .count)) answer)))
     (replied 20 rows answer)
+
+-- what a tolerant search leaves (W-209): its number, both result areas and the area of its answers
+pub record AnsweredBoth : Type 0 where
+  pub number : ℕ
+  pub certain : List ℕ
+  pub possible : List ℕ
+  pub answer : List ℕ
+
+abbrev pub repliedBoth : ℕ → List ℕ → List ℕ → List ℕ → AnsweredBoth
+repliedBoth number certain possible answer = record { number = number; certain = certain; possible = possible; answer = answer }
+
+-- the counts of certain and of possible lifts
+unfoldable pub tolerantCalled : List ℕ → List ℕ → List ℕ → ℕ → ℕ → ℕ → ℤ → ℤ → ℕ → List ℕ → List ℕ → List ℕ → AnsweredBoth
+tolerantCalled area nand nor slots t1 t2 k1 k2 d certain possible answer =
+    let o = tolerantOutcome (world nand nor (stateIn area)) slots t1 t2 k1 k2 d certain possible in
+    let numbers = o .certain ∷ o .possible ∷ [] in
+    inLengths area answer 16
+    (repliedBoth (o .number) (o .certain-area) (o .possible-area) (kept (o .number) (sideBySide (bytes 8) numbers) answer))
+    (repliedBoth 20 certain possible answer)
 
 -- 22 counts of 8 bytes
 unfoldable pub tallyCalled : List ℕ → List ℕ → List ℕ → ℕ → ℕ → ℕ → List ℕ → Answered

@@ -1,6 +1,8 @@
 // The calls for C and Rust: byte areas and numbers only. The state is a lent area of 783 bytes, 775 in form 0, the other answers are an
 // area of 8-byte numbers, a service page its text. Each call returns its number; 20 where one of these areas has another length, before
 // everything else.
+pub mod lists;
+
 use grow::Plan;
 use kept::NUMBER_BYTES;
 use kept::SEARCH_BYTES;
@@ -27,7 +29,7 @@ ghost use Rattle.store_abi.specs.Inner.Appending.{Appending};
 ghost use Rattle.store_abi.specs.Areas.{left, replied};
 ghost use Rattle.store_abi.specs.Areas.{formatCalled, appendCalled, closeCalled, dropCalled};
 ghost use Rattle.store_abi.specs.Areas.{forwardCalled, backwardCalled};
-ghost use Rattle.store_abi.specs.Areas.{searchCalled, tallyCalled, pageCalled, plateCalled, pairsCalled};
+ghost use Rattle.store_abi.specs.Areas.{searchCalled, tallyCalled, pageCalled, plateCalled};
 
 // One of the areas of state and answers has another length.
 const AREA_LENGTH: u8 = 20;
@@ -283,44 +285,6 @@ pub extern "C" fn store_page(
     let counts = t.counts;
     kept::keep_page(page, t.number, t1, t2, counts);
     t.number
-}
-
-// The pairs of two stores (W-208).
-#[no_mangle]
-pub extern "C" fn store_pairs(
-    first: &[u8],
-    nand1: &[u8],
-    nor1: &[u8],
-    slots1: u64,
-    second: &[u8],
-    nand2: &[u8],
-    nor2: &[u8],
-    slots2: u64,
-    rows: &mut [u8],
-    answer: &mut [u8],
-) -> u8
-    ensures { λ r. ⌜ replied r (now (rows .exit)) (now (answer .exit))
-        ≡ pairsCalled (now (first .entry)) (now (nand1 .entry)) (now (nor1 .entry)) slots1 (now (second .entry)) (now (nand2 .entry))
-        (now (nor2 .entry)) slots2 (now (rows .entry)) (now (answer .entry)) ⌝ }
-{
-    if first.len() != state_bytes::STATE_BYTES {
-        return AREA_LENGTH;
-    }
-    if second.len() != state_bytes::STATE_BYTES {
-        return AREA_LENGTH;
-    }
-    if answer.len() != NUMBER_BYTES {
-        return AREA_LENGTH;
-    }
-    let n1 = area_reads::ground(first, nand1.len(), nor1.len(), slots1);
-    let n2 = area_reads::ground(second, nand2.len(), nor2.len(), slots2);
-    let page1 = area_reads::page_of(first);
-    let page2 = area_reads::page_of(second);
-    let g1 = area_reads::log_at(first, slots1);
-    let g2 = area_reads::log_at(second, slots2);
-    let p = pairs::pieces::pairs_from(n1, n2, page1, g1, nand1, nor1, page2, g2, nand2, nor2, rows);
-    kept::keep_number(answer, p.number, p.count);
-    p.number
 }
 
 #[no_mangle]

@@ -7,7 +7,8 @@ use mathlib.Core.List.{List, [], _∷_, _++_, map}
 use Prim.Native.Nat.{ℕ}
 use native.Mathlib.Omega.{arith}
 use Rattle.supersets.specs.Pairs.{firstFit, withoutFit, pairWith, pairsOf}
-use Rattle.supersets.specs.Places.{Part, done, taken, passed, OneOf}
+use Rattle.codec.specs.Lists.{Part, done, taken, passed}
+use Rattle.supersets.specs.Places.{OneOf}
 use Rattle.supersets.proofs.Parts.{part-all, one-of-none, one-cases}
 
 module _ {A : Type 0} (fits : A → A → Bool) (a : A) where

@@ -8,7 +8,8 @@ use lib.Dec.{eqb}
 use borrow.Author.Tests.{eq-eqb, eqb-false, ne-eqb}
 use Rattle.codec.proofs.Truth.{or-left, or-right}
 use Rattle.bitset.specs.Set.{elem}
-use Rattle.supersets.specs.Places.{Part, done, taken, passed, NoTwice, Rises}
+use Rattle.codec.specs.Lists.{Part, done, taken, passed}
+use Rattle.supersets.specs.Places.{NoTwice, Rises}
 
 -- ---- a number that does not stand in a list, or does
 

@@ -2,7 +2,8 @@
 use mathlib.Core.Path.{_≡_, refl, ap, _∙_}
 use mathlib.Core.Logic.{_⊎_, inl, inr}
 use mathlib.Core.List.{List, [], _∷_, map}
-use Rattle.supersets.specs.Places.{Part, done, taken, passed, OneOf}
+use Rattle.codec.specs.Lists.{Part, done, taken, passed}
+use Rattle.supersets.specs.Places.{OneOf}
 
 module _ {A : Type 0} where
   pub part-all : (xs : List A) → Part xs xs

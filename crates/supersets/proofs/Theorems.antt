@@ -7,7 +7,8 @@ use mathlib.Core.List.{List, _∷_, _++_, map}
 use Prim.Native.Nat.{ℕ}
 use Rattle.bitset.specs.Set.{elem}
 use Rattle.supersets.specs.Pairs.{firstFit, pairsOf, joins, sideBySide, pairRows}
-use Rattle.supersets.specs.Places.{NoTwice, Rises, Part, OneOf, Placed, placed, placesOf, fitsAt, pairsAt}
+use Rattle.codec.specs.Lists.{Part}
+use Rattle.supersets.specs.Places.{NoTwice, Rises, OneOf, Placed, placed, placesOf, fitsAt, pairsAt}
 use Rattle.supersets.specs.Places.{unplaced, firsts, seconds, unusedBy}
 use Rattle.supersets.proofs.Parts.{part-trans, part-map}
 use Rattle.supersets.proofs.Numbers.{part-rises, rises-once}

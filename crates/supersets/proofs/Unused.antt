@@ -11,7 +11,8 @@ use lib.Dec.{eqb}
 use borrow.Author.Tests.{eqb-false}
 use Rattle.bitset.specs.Set.{elem}
 use Rattle.supersets.specs.Pairs.{firstFit, withoutFit, pairWith, pairsOf}
-use Rattle.supersets.specs.Places.{Placed, Part, done, taken, passed, OneOf, NoTwice, placesOf, firsts, seconds, unusedBy}
+use Rattle.codec.specs.Lists.{Part, done, taken, passed}
+use Rattle.supersets.specs.Places.{Placed, OneOf, NoTwice, placesOf, firsts, seconds, unusedBy}
 use Rattle.supersets.proofs.Parts.{part-map, one-of-none, one-cases}
 use Rattle.supersets.proofs.Numbers.{absent, absent-head, absent-rest, absent-none, present, other-way, part-absent, part-once}
 use Rattle.supersets.proofs.Fitting.{found-one, without-part, none-fits, without-none}

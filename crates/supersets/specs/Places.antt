@@ -4,6 +4,7 @@ use mathlib.Core.Path.{_≡_}
 use mathlib.Core.Bool.{Bool, false, cond}
 use mathlib.Core.List.{List, [], _∷_, map}
 use Prim.Native.Nat.{ℕ, suc, _≤_}
+use Rattle.codec.specs.Lists.{Part}
 use Rattle.bitset.specs.Set.{elem}
 use Rattle.supersets.specs.Pairs.{pairsOf}
 
@@ -26,12 +27,6 @@ abbrev pub Placed : Type 0 → Type 0
 Placed A = ℕ × A
 
 module _ {A : Type 0} where
-  -- the first list is part of the second, in the second's order: each of the second, in turn, is taken or passed over
-  pub data Part : List A → List A → Type 0 where
-    done : {ys : List A} → Part [] ys
-    taken : {x y : A} {xs ys : List A} → x ≡ y → Part xs ys → Part (x ∷ xs) (y ∷ ys)
-    passed : {y : A} {xs ys : List A} → Part xs ys → Part xs (y ∷ ys)
-
   -- x is one of the list
   abbrev pub OneOf : A → List A → Type 0
   OneOf x xs = Part (x ∷ []) xs

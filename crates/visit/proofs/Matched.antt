@@ -25,7 +25,7 @@ use Rattle.visit.specs.Visit.{timely, timed, timedOf, matchesOf}
 
 -- ---- places below a count
 
-below-elem : (n p : ℕ) (l : List ℕ) → Below n l → elem p l ≡ true → p < n
+pub below-elem : (n p : ℕ) (l : List ℕ) → Below n l → elem p l ≡ true → p < n
 unfolding elem
 below-elem n p [] b e = let z : _≡_ {A = ℕ} 0 1 = cc in absurd (omega arith)
 below-elem n p (x ∷ l) b e = go (eqb p x) refl e (λ h. below-elem n p l (b .1) h)

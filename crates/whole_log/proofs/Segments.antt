@@ -2,7 +2,7 @@
 use mathlib.Core.Path.{_≡_, refl, sym, ap, subst, _∙_}
 use mathlib.Core.Bool.{Bool, true, false}
 use mathlib.Core.Option.{Option, none, some}
-use mathlib.Core.List.{List, [], _∷_, map}
+use mathlib.Core.List.{List, map}
 use Prim.Native.Nat.{ℕ, _≤_, _<_}
 use native.Mathlib.Omega.{arith}
 use lib.Dec.{eqb}
@@ -16,6 +16,7 @@ use Rattle.lift.specs.Rows.{recordIn, inFullPages}
 use Rattle.skiplist.specs.Skip.{Live}
 use Rattle.header.specs.Header.{headerIn}
 use Rattle.sweep.specs.Inner.Swept.{sweptFrom}
+use Rattle.sweep.proofs.Found.{below-more}
 use Rattle.visit.specs.declared.Closed.{Closed}
 use Rattle.visit.specs.declared.Log.{Log}
 use Rattle.visit.specs.declared.Query.{Query}
@@ -28,6 +29,7 @@ use Rattle.walk.specs.declared.Step.the-variants.{End, Damage, Pass, Visit}
 use Rattle.walk.specs.Advance.{advanceOf}
 use Rattle.found.proofs.Counts.{never}
 use Rattle.found.proofs.Matched.{closed-rows-are, closed-some, closed-below, open-none, open-rows-are, open-damage, open-good, open-below}
+use Rattle.found.proofs.Placed.{map-below, tail-unread}
 use Rattle.found.proofs.Most.{step-read}
 use Rattle.whole_log.specs.Inner.Held.{setIn, placesIn, liftsAt, recordsAt, rowAt, closedIn, closedSweep, openSweep, Found}
 
@@ -36,22 +38,6 @@ use Rattle.whole_log.specs.Inner.Held.{setIn, placesIn, liftsAt, records
 pub swept-words : (o : Option (List ℕ)) → length (sweptFrom emptyWords o .set .words) ≡ 5
 swept-words none = refl
 swept-words (some ps) = length-insertAll emptyWords ps
-
--- ---- places below a bound
-
-below-more : (n m : ℕ) → n ≤ m → (ps : List ℕ) → Below n ps → Below m ps
-below-more n m h [] b = tt
-below-more n m h (p ∷ ps) b = (omega (arith, b .0), below-more n m h ps (b .1))
-
-map-below : (n : ℕ) (f h : ℕ → List ℕ) → ((p : ℕ) → p < n → f p ≡ h p) → (ps : List ℕ) → Below n ps → map f ps ≡ map h ps
-map-below n f h e [] b = refl
-map-below n f h e (p ∷ ps) b =
-    ap (λ (r : List ℕ). r ∷ map f ps) (e p (b .0)) ∙ ap (λ (rs : List (List ℕ)). h p ∷ rs) (map-below n f h e ps (b .1))
-
--- below place 320 nothing is read behind the pages
-tail-unread : (lifts a b : List ℕ) (p : ℕ) → p < 320 → recordIn lifts a 320 p ≡ recordIn lifts b 320 p
-unfolding recordIn
-tail-unread lifts a b p h = let t = lt-ltb p 320 h in rw t
 
 -- a segment's rows, where its slot, its first place behind the pages and its set are known
 pub segment-rows : (nand page : List ℕ) (g : Log) (way sets : List ℕ) (i slot first : ℕ) (ws : List ℕ) → getD way i 0 ≡ slot
@@ -91,7 +77,7 @@ module _ (nand : List ℕ) (g : Log) (q : Query) (s : Closed) (sound : ClosedSou
   places = members (closedSweep nand s q .set .words)
 
   places-below : Below 320 places
-  places-below = below-more (s .count) 320 (sound .most) places (closed-below nand s q (closedSweep nand s q) refl)
+  places-below = below-more (s .count) 320 places (sound .most) (closed-below nand s q (closedSweep nand s q) refl)
 
   pub found-closed : (nor : List ℕ) → s ≡ closedIn nand (s .slot) → Found nand nor page g q way sets i
   found-closed nor is =

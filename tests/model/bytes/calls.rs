@@ -5,19 +5,21 @@ use super::close::close_segment;
 use super::pairs::pair_up;
 use super::search::{find, load_of, Found, PagesRead};
 use super::state::State;
+use super::tolerant::search_with_tolerance;
 use super::work::{put_state, Work};
 use crate::limits::*;
+use crate::paper::Record;
 use crate::plate::plate_of;
 use crate::service_page;
 use crate::stacks::{generated, plate_at};
 use script::areas::{Areas, SLOT_BYTES};
-use script::calls::{Call, Carry, Outputs, Pairs, Store, Window};
+use script::calls::{Call, Carry, Outputs, Pairs, Store, Tolerant, TolerantOutputs, Window};
 use script::form::Form;
 
 const NOR_BYTES: usize = 6_144;
 
-/// Answers any call on any areas as document 01 says, in form 1 as W-202, W-206 and W-207 amend it, and the calls of W-203
-/// and W-208.
+/// Answers any call on any areas as document 01 says, in form 1 as W-202, W-206 and W-207 amend it, and the calls of W-203,
+/// W-208 and W-209.
 pub struct Expectation;
 
 impl Store for Expectation {
@@ -41,6 +43,10 @@ impl Store for Expectation {
 
     fn pairs(&mut self, pairs: &Pairs, first: &Areas, second: &Areas, outputs: &mut Outputs) -> u8 {
         pair_up((first, pairs.slots), (second, pairs.second_slots), outputs).err().unwrap_or(0)
+    }
+
+    fn tolerant(&mut self, tolerant: &Tolerant, areas: &Areas, outputs: &mut TolerantOutputs) -> u8 {
+        search_with_tolerance(areas, tolerant, outputs).err().unwrap_or(0)
     }
 
     fn generate(&mut self, input: &[u8]) -> Result<Vec<u8>, String> {
@@ -67,7 +73,7 @@ pub fn state_in_bounds(form: Form, areas: &Areas, slots: u64) -> Outcome<State> 
 }
 
 /// The state, unless one of grounds 1 to 3 holds.
-fn checked_state(form: Form, areas: &Areas, slots: u64) -> Outcome<State> {
+pub fn checked_state(form: Form, areas: &Areas, slots: u64) -> Outcome<State> {
     check_nand(areas, slots)?;
     check_nor(areas)?;
     state_in_bounds(form, areas, slots)
@@ -109,8 +115,19 @@ fn drop_oldest(form: Form, areas: &mut Areas, slots: u64) -> Outcome<()> {
     work.end(result)
 }
 
+pub fn bytes_of(values: &[u64]) -> Vec<u8> {
+    values.iter().flat_map(|value| value.to_le_bytes()).collect()
+}
+
 pub fn put_values(outputs: &mut Outputs, values: &[u64]) {
-    outputs.answer = values.iter().flat_map(|value| value.to_le_bytes()).collect();
+    outputs.answer = bytes_of(values);
+}
+
+/// Writes rows into an area that has room for them; its other bytes stay.
+pub fn put_rows(area: &mut [u8], records: &[Record]) {
+    for (row, record) in area.chunks_mut(ROW_BYTES).zip(records) {
+        row.copy_from_slice(record);
+    }
 }
 
 /// What a search finds, unless a ground before 12 is against it.
@@ -126,9 +143,7 @@ pub fn found(form: Form, areas: &Areas, slots: u64, window: &Window) -> Outcome<
 fn search(form: Form, areas: &Areas, slots: u64, window: &Window, outputs: &mut Outputs) -> Outcome<()> {
     let Found { records, pages_read } = found(form, areas, slots, window)?;
     refuse_if(records.len() > outputs.rows.len() / ROW_BYTES, TOO_MANY_ROWS)?;
-    for (row, record) in outputs.rows.chunks_mut(ROW_BYTES).zip(&records) {
-        row.copy_from_slice(record);
-    }
+    put_rows(&mut outputs.rows, &records);
     let PagesRead { header, bloom, tree } = pages_read;
     let counts = [records.len(), header, bloom, tree].map(|count| count as u64);
     put_values(outputs, &counts[..1 + form.page_counts()]);

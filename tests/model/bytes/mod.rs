@@ -1,5 +1,5 @@
 //! The expectation of every byte, over whatever chips and states are handed over: document 01 in its own form 0 and in
-//! form 1 of W-202, W-203's conversions and W-208's pairs.
+//! form 1 of W-202, W-203's conversions, W-208's pairs and W-209's tolerant search.
 mod append;
 mod bloom;
 mod bucket;
@@ -12,7 +12,9 @@ mod numbers;
 mod pairs;
 mod search;
 mod state;
+mod tolerant;
 mod work;
 
 pub use calls::{found, Expectation};
 pub use pairs::pairs_found;
+pub use tolerant::{tolerant_found, widened};

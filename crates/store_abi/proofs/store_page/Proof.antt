@@ -1,6 +1,5 @@
 -- `store_abi::store_page` meets its contract: a tally's page in its area.
 use mathlib.Core.Path.{_∙_}
-use mathlib.Core.List.{[]}
 use Rattle.service_page.specs.Page.{pageOf}
 use Rattle.questions.proofs.TallyMost.{counts-fit}
 use Rattle.store_abi.specs.Areas.{pageCalled}
@@ -12,11 +11,11 @@ use Rattle.store_abi.proofs.store_page.Tie as tie
 
 returns : tie.Need-returns
 unfolding pageCalled
-returns c = state-wrong _ _ 984 [] _ (c .if1 .taken)
+returns c = state-wrong _ _ 984 _ _ (c .if1 .taken)
 
 returns-2 : tie.Need-returns-2
 unfolding pageCalled
-returns-2 c = answer-wrong _ _ 984 [] _ (c .before .if1 .left) (c .if2 .taken)
+returns-2 c = answer-wrong _ _ 984 _ _ (c .before .if1 .left) (c .if2 .taken)
 
 tallied-requires : tie.Need-tallied-requires
 tallied-requires c κs = search needs
@@ -36,7 +35,7 @@ returns-3 c =
     let t = k .before .before .before in
     let area = t .before in
     tally-left (pageOf _ _) _ _ _ _ _ (t .tallied .ensures) (k .keep-page .ensures)
-    ∙ both-right _ _ 984 [] _ (area .before .if1 .left) (area .if2 .left)
+    ∙ both-right _ _ 984 _ _ (area .before .if1 .left) (area .if2 .left)
 
 pub store-page-spec : {M : Type 1} → statement M
 store-page-spec = tie.close (tie.spec returns returns-2 tallied-requires keep-page-requires same-length returns-3)

@@ -1,4 +1,4 @@
--- `store_abi::store_pairs` meets its contract: the pairs of the two states that the areas hold, their count in the answer's area.
+-- `store_abi::lists::store_pairs` meets its contract: the pairs of the two states that the areas hold, their count in the answer's area.
 use mathlib.Core.Path.{ap, _∙_}
 use lib.ListN.{length}
 use Rattle.questions.proofs.Asked.{log-sound, slots-most}
@@ -6,8 +6,8 @@ use Rattle.state_bytes.specs.StateBytes.{stateIn}
 use Rattle.store_abi.specs.Areas.{pairsCalled}
 use Rattle.store_abi.proofs.Leaves.{page-size, one-wrong, one-right, state-wrong, answer-wrong, both-right, pairs-left}
 use borrow.Author.Needs.{needs}
-use Rattle.store_abi.proofs.store_pairs.Statement.{statement}
-use Rattle.store_abi.proofs.store_pairs.Tie as tie
+use Rattle.store_abi.proofs.lists.store_pairs.Statement.{statement}
+use Rattle.store_abi.proofs.lists.store_pairs.Tie as tie
 
 returns : tie.Need-returns
 unfolding pairsCalled

@@ -1,0 +1,3 @@
+pub mod AtHand
+pub mod PassedOver
+pub mod Turns

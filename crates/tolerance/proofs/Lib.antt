@@ -1,0 +1,5 @@
+pub mod Order
+pub mod Grounds
+pub mod ByEnds
+pub mod Theorems
+pub mod Examples

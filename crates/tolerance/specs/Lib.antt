@@ -1,0 +1,3 @@
+pub mod Tolerance
+pub mod Grounds
+pub mod Inner

@@ -1,0 +1,5 @@
+pub mod Counting
+pub mod Picking
+pub mod Listed
+pub mod Asked
+pub mod Theorems

@@ -1,0 +1,4 @@
+pub mod Answers
+pub mod Call
+pub mod Words
+pub mod Inner
