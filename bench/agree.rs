@@ -1,4 +1,5 @@
 //! Store and in-place implementation side by side on damaged chips, odd states and odd arguments.
+use crate::agree_kept;
 use crate::carried::{backward, backward_in_place, Carried, OldStore};
 use crate::gym::{Gym, Random};
 use crate::in_place::InPlace;
@@ -8,12 +9,12 @@ use crate::service_page::ServicePage;
 use crate::tolerant_in_place::TolerantInPlace;
 use plain::{plate_of, plate_on, Counts, Ground, OldState, State, Window, LOAD_MAX, LOAD_MIN, SLOT_BYTES, TIME_MAX};
 
-const TRIALS: usize = 4_000;
+pub const TRIALS: usize = 4_000;
 /// What a stuck cell shows: both ends of plate 20, just beyond the stack and far beyond it.
-const STUCK: [i32; 4] = [9_751, 10_250, 10_251, LOAD_MAX];
+pub const STUCK: [i32; 4] = [9_751, 10_250, 10_251, LOAD_MAX];
 
 /// How often each number was answered, 0 first.
-type Seen = [usize; 18];
+pub type Seen = [usize; 18];
 
 fn number<T>(answer: Result<T, Ground>) -> u8 {
     answer.map_or_else(|ground| ground as u8, |_| 0)
@@ -35,6 +36,7 @@ pub fn check() -> Seen {
             trial(&mut random, &poked, lifts[lifts.len() - 1].time, &mut seen);
         }
         check_conversions(&mut random, slots, &mut seen);
+        agree_kept::check(&mut random, slots, &mut seen);
     }
     check_lookups();
     seen
@@ -54,7 +56,7 @@ fn check_lookups() {
 }
 
 /// Up to three bytes are changed, mostly in headers, trees and the state; now and then the serials, S or NOR's length.
-fn poke(random: &mut Random, state: &mut [u8], nand: &mut [u8], nor: &mut Vec<u8>, named_slots: &mut u64) {
+pub fn poke(random: &mut Random, state: &mut [u8], nand: &mut [u8], nor: &mut Vec<u8>, named_slots: &mut u64) {
     match random.within(0, 31) {
         0 => *named_slots += 1,
         1 => nor.truncate(6_000),
@@ -81,7 +83,7 @@ fn poke(random: &mut Random, state: &mut [u8], nand: &mut [u8], nor: &mut Vec<u8
 }
 
 /// Now and then the byte that tells a header's form is changed.
-fn poke_form(random: &mut Random, nand: &mut [u8]) {
+pub fn poke_form(random: &mut Random, nand: &mut [u8]) {
     let slots = (nand.len() / SLOT_BYTES) as i64;
     if random.within(0, 15) == 0 {
         nand[random.within(0, slots - 1) as usize * SLOT_BYTES + 31 * 512 + 10] = random.within(0, 2) as u8;

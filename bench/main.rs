@@ -1,11 +1,15 @@
 //! The store against an in-place implementation, SQLite, a plain array and LMDB, on the same lifts and questions.
 mod agree;
+mod agree_kept;
 mod carried;
 mod clock;
 mod field;
 mod filled;
 mod gym;
 mod in_place;
+mod kept;
+mod kept_calls;
+mod kept_in_place;
 #[cfg(any(sqlite, lmdb))]
 mod key;
 mod lift;
@@ -28,6 +32,7 @@ mod sqlite_calls;
 mod stack;
 mod tolerant;
 mod tolerant_in_place;
+mod twins;
 
 use carried::{backward, Carried, OldStore};
 use field::Field;
@@ -74,6 +79,9 @@ fn depths() -> Vec<(&'static str, usize)> {
     let mut rows = vec![0; field.rows.len()];
     let mut store = field.proved.clone();
     let append = stack::depth(|| assert!(lifts.iter().all(|lift| store.put(lift) == 0)));
+    let mut keeping = field.proved.clone();
+    let mut kept = keeping.counts_due();
+    let append_kept = stack::depth(|| assert!(lifts.iter().all(|lift| keeping.put_kept(&mut kept, lift) == 0)));
     let (mut found, mut plate) = ([0; size_of::<FoundArea>()], [0; 8]);
     let (mut counts, mut page) = ([0; size_of::<Counts>()], [0; size_of::<ServicePage>()]);
     let old: &Proved = &field.proved;
@@ -86,6 +94,9 @@ fn depths() -> Vec<(&'static str, usize)> {
         ("append, closing and dropping among 700", append),
         ("close", stack::depth(|| assert_eq!(closing.close(), 0))),
         ("drop", stack::depth(|| assert_eq!(dropping.drop_oldest(), 0))),
+        ("append keeping counts, closing and dropping among 700", append_kept),
+        ("drop keeping counts", stack::depth(|| assert_eq!(keeping.drop_kept(&mut kept), 0))),
+        ("format keeping counts", stack::depth(|| assert_eq!(keeping.format_kept(&mut kept), 0))),
         ("search", stack::depth(|| assert_eq!(old.find(&window, &mut rows, &mut found), 0))),
         ("tally", stack::depth(|| assert_eq!(old.by_plate(window.t1, window.t2, &mut counts), 0))),
         ("page", stack::depth(|| assert_eq!(old.page(window.t1, window.t2, &mut page), 0))),
@@ -107,8 +118,11 @@ fn main() {
         ["searches"] => search_lines::print(),
         ["pairs"] => pairs::table(&SIZES.map(pairs::measured)),
         ["tolerant"] => tolerant::table(&SIZES.map(tolerant::measured)),
+        ["kept"] => kept::table(&SIZES.map(kept::measured)),
         _ => {
-            eprintln!("bench report SYMBOLS | bench pages | bench searches | bench pairs | bench tolerant");
+            eprintln!(
+                "bench report SYMBOLS | bench pages | bench searches | bench pairs | bench tolerant | bench kept"
+            );
             std::process::exit(2);
         }
     }
@@ -144,16 +158,25 @@ fn report(symbols: &str) {
     );
     println!("search of the widened range, and two, of the narrowed and of the widened. All find the same rows.\n");
     tolerant::table(&tolerated);
+    let kept = SIZES.map(kept::measured);
+    println!("\nAppends and drops that keep counts, by the store and by (a), in turns with the plain calls. Counts and chips");
+    println!("are the same for all, and the counts are those of a tally of the whole log.\n");
+    kept::table(&kept);
+    println!();
+    report::front_screen(&lines);
     let mut depths = depths();
     depths.extend(paired.last().map(|line| (report::PAIRS_STACK, line.stack)));
     depths.extend(tolerated.last().map(|size| (report::TOLERANT_STACK, size.stack)));
     let tolerant_lines = tolerated.into_iter().flat_map(|size| size.lines).map(|line| line.line);
-    let lines: Vec<Line> = lines.into_iter().chain(tolerant_lines).collect();
+    let times_plain = kept.each_ref().map(|[append, _]| append.times_plain());
+    let kept_lines = kept.into_iter().flatten().map(|line| line.line);
+    let lines: Vec<Line> = lines.into_iter().chain(tolerant_lines).chain(kept_lines).collect();
     println!();
     report::stacks(&depths);
     report::plans(&large.sqlite_plans());
     println!();
-    report::targets(&lines, append_ratio(&mut small, &mut large), &depths, symbols);
+    let ratios = report::Ratios { large_to_small: append_ratio(&mut small, &mut large), kept_to_plain: times_plain };
+    report::targets(&lines, &ratios, &depths, symbols);
     println!("\n## Where others are faster\n");
     report::faster(&lines);
 }

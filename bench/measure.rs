@@ -50,7 +50,7 @@ pub struct Line {
     pub rounds: AllRounds,
 }
 
-fn ns_per_call(calls: usize, run: impl FnOnce()) -> f64 {
+pub fn ns_per_call(calls: usize, run: impl FnOnce()) -> f64 {
     let start = clock::nanoseconds();
     run();
     (clock::nanoseconds() - start) as f64 / calls as f64

@@ -134,7 +134,7 @@ pub fn listed_in(area: &ListedArea) -> Tolerated {
 }
 
 /// State and chips as the console holds them; each call hands back its number.
-#[derive(Clone)]
+#[derive(Clone, PartialEq)]
 pub struct Proved {
     pub state: [u8; STATE_BYTES],
     pub nand: Vec<u8>,

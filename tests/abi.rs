@@ -22,6 +22,18 @@ mod c {
             state: *mut u8, state_len: usize, nand: *mut u8, nand_len: usize, nor: *const u8, nor_len: usize,
             slots: u64,
         ) -> u8;
+        pub fn store_format_kept(
+            state: *mut u8, state_len: usize, counts: *mut u8, counts_len: usize, nand: *mut u8, nand_len: usize,
+            nor: *mut u8, nor_len: usize, slots: u64,
+        ) -> u8;
+        pub fn store_append_kept(
+            state: *mut u8, state_len: usize, counts: *mut u8, counts_len: usize, nand: *mut u8, nand_len: usize,
+            nor: *mut u8, nor_len: usize, slots: u64, time: u64, load: i32, note: *const u8,
+        ) -> u8;
+        pub fn store_drop_kept(
+            state: *mut u8, state_len: usize, counts: *mut u8, counts_len: usize, nand: *mut u8, nand_len: usize,
+            nor: *const u8, nor_len: usize, slots: u64,
+        ) -> u8;
         pub fn store_search(
             state: *const u8, state_len: usize, nand: *const u8, nand_len: usize, nor: *const u8, nor_len: usize,
             slots: u64, t1: u64, t2: u64, k1: i32, k2: i32, rows: *mut u8, rows_len: usize, answer: *mut u8,
@@ -107,17 +119,26 @@ impl Store for Library {
         if form == Form::Old {
             return Expectation.answer(form, call, areas, outputs);
         }
-        let mut state = Lent::new(&areas.state);
-        let mut nor = Lent::new(&areas.nor);
-        let mut rows = Lent::new(&outputs.rows);
-        let mut answer = Lent::new(&outputs.answer);
-        let number = enter(call, state.area(), &mut areas.nand, nor.area(), rows.area(), answer.area());
+        let plain_format = match call {
+            Call::Format { slots } => Some(formatted_without_counts(areas, *slots)),
+            _ => None,
+        };
+        let [mut state, mut counts, mut nor] = [&areas.state, &areas.counts, &areas.nor].map(|area| Lent::new(area));
+        let [mut rows, mut answer] = [&outputs.rows, &outputs.answer].map(|area| Lent::new(area));
+        let store = LentStore { state: state.area(), nand: &mut areas.nand, nor: nor.area() };
+        let number = enter(call, store, counts.area(), rows.area(), answer.area());
         let whole = [
             state.hand_back(&mut areas.state),
+            counts.hand_back(&mut areas.counts),
             nor.hand_back(&mut areas.nor),
             rows.hand_back(&mut outputs.rows),
             answer.hand_back(&mut outputs.answer),
         ];
+        if let Some((plain_number, plain)) = plain_format {
+            assert_eq!(plain_number, number, "number of store_format, and of store_format_kept on the same areas");
+            let is_same = plain.state == areas.state && plain.nand == areas.nand && plain.nor == areas.nor;
+            assert!(is_same, "store_format and store_format_kept leave different chips or states of the same areas");
+        }
         number_if(whole, number)
     }
 
@@ -179,47 +200,49 @@ impl Store for Library {
     }
 }
 
-fn number_if(margins_whole: [bool; 4], number: u8) -> u8 {
+fn number_if<const N: usize>(margins_whole: [bool; N], number: u8) -> u8 {
     if margins_whole.contains(&false) {
         return WROTE_OUTSIDE;
     }
     number
 }
 
-/// The areas of one of the two stores of a conversion, of whatever lengths.
+/// What the format that knows of no counts makes of copies of these areas, with its number.
+fn formatted_without_counts(areas: &Areas, slots: u64) -> (u8, Areas) {
+    let mut areas = areas.clone();
+    let [mut state, mut nor] = [&areas.state, &areas.nor].map(|area| Lent::new(area));
+    let store = LentStore { state: state.area(), nand: &mut areas.nand, nor: nor.area() };
+    let number = enter_plain_format(slots, store);
+    let whole = [state.hand_back(&mut areas.state), nor.hand_back(&mut areas.nor)];
+    assert_eq!(whole, [true; 2], "store_format wrote outside the state or NOR that it was lent");
+    (number, areas)
+}
+
+/// The areas of a store that may be written, of whatever lengths.
 pub struct LentStore<'a> {
     pub state: &'a mut [u8],
     pub nand: &'a mut [u8],
     pub nor: &'a mut [u8],
 }
 
+impl LentStore<'_> {
+    /// State, NAND and NOR, each as the library is told it.
+    fn told(self) -> [(*mut u8, usize); 3] {
+        [self.state, self.nand, self.nor].map(|area| (area.as_mut_ptr(), area.len()))
+    }
+}
+
 /// Has the library carry one store into another.
 pub fn enter_carry(into: Form, slots: u64, first: LentStore, second: LentStore) -> u8 {
-    let LentStore { state, nand, nor } = first;
-    let LentStore { state: to_state, nand: to_nand, nor: to_nor } = second;
+    let [(st, st_len), (na, na_len), (no, no_len)] = first.told();
+    let [(to, to_len), (ta, ta_len), (tn, tn_len)] = second.told();
     let call = match into {
         Form::New => c::store_forward,
         Form::Old => c::store_backward,
     };
     // Sound if the library keeps to the areas whose lengths it is told, which is what is under test. The first store's
     // pointers come from areas that may be changed, so that a write there shows as a difference.
-    unsafe {
-        call(
-            state.as_mut_ptr(),
-            state.len(),
-            nand.as_mut_ptr(),
-            nand.len(),
-            nor.as_mut_ptr(),
-            nor.len(),
-            slots,
-            to_state.as_mut_ptr(),
-            to_state.len(),
-            to_nand.as_mut_ptr(),
-            to_nand.len(),
-            to_nor.as_mut_ptr(),
-            to_nor.len(),
-        )
-    }
+    unsafe { call(st, st_len, na, na_len, no, no_len, slots, to, to_len, ta, ta_len, tn, tn_len) }
 }
 
 /// A store that is only read, as one of the two machines of a pairing, of whatever lengths.
@@ -263,22 +286,35 @@ pub fn enter_tolerant(call: &Tolerant, store: &ReadStore, lists: [&mut [u8]; 2],
     unsafe { tolerant(st, st_len, na, na_len, no, no_len, s, t1, t2, k1, k2, d, ce, ce_len, po, po_len, an, an_len) }
 }
 
-/// Calls the library with areas of whatever lengths.
-pub fn enter(call: &Call, state: &mut [u8], nand: &mut [u8], nor: &mut [u8], rows: &mut [u8], answer: &mut [u8]) -> u8 {
-    let (st, st_len) = (state.as_mut_ptr(), state.len());
-    let (na, na_len) = (nand.as_mut_ptr(), nand.len());
-    let (no, no_len) = (nor.as_mut_ptr(), nor.len());
+/// Has the library format a store beside which no counts are kept.
+pub fn enter_plain_format(slots: u64, store: LentStore) -> u8 {
+    let [(st, st_len), (na, na_len), (no, no_len)] = store.told();
+    // Sound if the library keeps to the areas whose lengths it is told, which is what is under test.
+    unsafe { c::store_format(st, st_len, na, na_len, no, no_len, slots) }
+}
+
+/// Calls the library with areas of whatever lengths; a format is the one that sets the counts to 0.
+pub fn enter(call: &Call, store: LentStore, counts: &mut [u8], rows: &mut [u8], answer: &mut [u8]) -> u8 {
+    let [(st, st_len), (na, na_len), (no, no_len)] = store.told();
+    let (co, co_len) = (counts.as_mut_ptr(), counts.len());
     let (ro, ro_len) = (rows.as_mut_ptr(), rows.len());
     let (an, an_len) = (answer.as_mut_ptr(), answer.len());
     // Sound if the library keeps to the areas whose lengths it is told, which is what is under test.
     unsafe {
         match *call {
-            Call::Format { slots } => c::store_format(st, st_len, na, na_len, no, no_len, slots),
-            Call::Append { slots, time, load, ref note } => {
+            Call::Format { slots } => c::store_format_kept(st, st_len, co, co_len, na, na_len, no, no_len, slots),
+            Call::Append { keeps: false, slots, time, load, ref note } => {
                 c::store_append(st, st_len, na, na_len, no, no_len, slots, time, load, note.as_ptr())
             }
+            Call::Append { keeps: true, slots, time, load, ref note } => {
+                let append = c::store_append_kept;
+                append(st, st_len, co, co_len, na, na_len, no, no_len, slots, time, load, note.as_ptr())
+            }
             Call::Close { slots } => c::store_close(st, st_len, na, na_len, no, no_len, slots),
-            Call::Drop { slots } => c::store_drop(st, st_len, na, na_len, no, no_len, slots),
+            Call::Drop { keeps: false, slots } => c::store_drop(st, st_len, na, na_len, no, no_len, slots),
+            Call::Drop { keeps: true, slots } => {
+                c::store_drop_kept(st, st_len, co, co_len, na, na_len, no, no_len, slots)
+            }
             Call::Search { slots, window: Window { t1, t2, k1, k2 }, .. } => {
                 let search = c::store_search;
                 search(st, st_len, na, na_len, no, no_len, slots, t1, t2, k1, k2, ro, ro_len, an, an_len)

@@ -19,14 +19,35 @@ impl State {
         note: &[u8; 20],
     ) -> Result<(), Ground> {
         self.check(nand, nor, slots)?;
+        self.append_unless(nand, nor, slots, time, load, note, |_, _, _| Ok(()))
+    }
+
+    /// Grounds 4 and on. A forced drop is asked about while nothing is written yet: the state, NAND and the open serial by then.
+    #[inline(always)]
+    pub(crate) fn append_unless(
+        &mut self,
+        nand: &mut [u8],
+        nor: &mut [u8],
+        slots: u64,
+        time: u64,
+        load: i32,
+        note: &[u8; 20],
+        drop_refused: impl FnOnce(&State, &[u8], u32) -> Result<(), Ground>,
+    ) -> Result<(), Ground> {
         self.check_lift(time, load)?;
         let code = stored(load);
         let buckets: &[u8; TREE_BYTES] = nor[..TREE_BYTES].try_into().unwrap();
         let plan = tree::plan(buckets, self.buckets, self.count, &self.loads, code)?;
         if let Plan::Full = plan {
+            if u64::from(self.open + 1 - self.oldest) >= slots {
+                drop_refused(self, nand, self.open + 1)?;
+            }
             self.check_pages_due(nand, slots)?;
             self.close_segment(nand, nor, slots);
         } else {
+            if self.count == 0 && u64::from(self.open - self.oldest) >= slots {
+                drop_refused(self, nand, self.open)?;
+            }
             self.check_writes(nand, nor, slots, &plan)?;
         }
         // The first lift of a segment takes the slot of the oldest, if all are in use.

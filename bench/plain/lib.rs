@@ -1,5 +1,6 @@
 //! The rules of document 01, in form 1 of W-202, in place and without proofs: the same chips and bytes, the state a struct that the
-//! calls change; W-203's conversions, W-205's lookup and W-207's counts; with cfg(tolerant) W-209's search.
+//! calls change; W-203's conversions, W-205's lookup and W-207's counts; with cfg(tolerant) W-209's search, with
+//! cfg(kept) W-210's counts.
 #![no_std]
 #![forbid(unsafe_code)]
 
@@ -10,6 +11,8 @@ mod carry;
 mod close;
 mod form;
 mod header;
+#[cfg(kept)]
+mod kept;
 mod matches;
 mod plate;
 mod query;
@@ -20,6 +23,8 @@ mod tolerant;
 mod tree;
 
 pub use form::{OldState, OLD_STATE_BYTES};
+#[cfg(kept)]
+pub use kept::Kept;
 pub use plate::{plate_of, plate_on, Counts};
 pub use query::{Found, PagesRead, Window};
 pub use state::{Pointer, State, STATE_BYTES};

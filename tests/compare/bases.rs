@@ -26,13 +26,13 @@ pub fn any(trial: &mut Trial) -> Result<Habits, crate::judge::Difference> {
         fill_open_segment(trial, &mut habits, count)?;
     }
     if trial.random.once_in(4) {
-        trial.call(Call::Drop { slots })?;
+        habits.drop(trial)?;
     }
     Ok(habits)
 }
 
 /// Appends until the open segment has bucket 35, so that the next new one closes it.
-fn use_all_buckets(trial: &mut Trial, habits: &mut Habits) -> Step {
+pub fn use_all_buckets(trial: &mut Trial, habits: &mut Habits) -> Step {
     habits.spread_loads();
     append_while(trial, habits, |trial| trial.field(Field::Buckets) < 36 && trial.field(Field::Count) < 320)
 }

@@ -56,7 +56,7 @@ fn short_segments(trial: &mut Trial) -> Result<Habits, Difference> {
         bases::fill_open_segment(trial, &mut habits, count)?;
         habits.close(trial)?;
         if trial.random.once_in(drop_in) {
-            trial.call(Call::Drop { slots })?;
+            habits.drop(trial)?;
         }
     }
     let count = trial.random.pick(&OPEN_COUNTS);

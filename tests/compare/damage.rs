@@ -42,7 +42,7 @@ pub fn rounds(trial: &mut Trial) -> Step {
 pub fn call_after_damage(trial: &mut Trial, habits: &mut Habits) -> Step {
     let slots = habits.slots;
     match trial.random.below(12) {
-        0 => trial.call(Call::Drop { slots }),
+        0 => habits.drop(trial),
         1 => trial.call(Call::Close { slots }),
         2 => habits.search_all(trial),
         3 => {
@@ -153,7 +153,7 @@ pub fn damage_once(trial: &mut Trial, slots: u64) -> Step {
 }
 
 /// Another count in a header, with the sections and the fragment length that it gives.
-fn change_count(trial: &mut Trial, header: usize) -> Step {
+pub fn change_count(trial: &mut Trial, header: usize) -> Step {
     let count: u16 = trial.random.pick(&[1, 63, 64, 65, 256, 257, 319, 320, 321, 384, 385, 65_535]);
     let sections = count.div_ceil(64);
     let length = (512 / sections).min(128);
@@ -199,7 +199,7 @@ fn damage_section(trial: &mut Trial, slot: usize) -> Step {
 }
 
 /// A byte of a page that a coming call programs, so that it is not erased.
-fn damage_page_due(trial: &mut Trial, slots: u64) -> Step {
+pub fn damage_page_due(trial: &mut Trial, slots: u64) -> Step {
     let serial = trial.field(Field::Open) - 1 + trial.random.pick(&[0, 0, 1]);
     let slot = (serial % slots) as usize * SLOT_BYTES;
     let lift_page = trial.field(Field::Count) as usize / 16 % 20;

@@ -46,12 +46,13 @@ fn any_call(trial: &mut Trial, slots: u64) -> Step {
     let random = &mut trial.random;
     let time = random.below(100);
     let load = random.load(-100, 100);
+    let keeps = random.once_in(2);
     let window = Window { t1: 0, t2: time, k1: load.min(0), k2: load.max(0) };
     let call = match random.below(8) {
         0 | 1 => Call::Format { slots },
-        2 => Call::Append { slots, time, load, note: random.note() },
+        2 => Call::Append { keeps, slots, time, load, note: random.note() },
         3 => Call::Close { slots },
-        4 => Call::Drop { slots },
+        4 => Call::Drop { keeps, slots },
         5 => Call::Search { slots, window, area_bytes: random.index(100) },
         6 => Call::Page { slots, t1: 0, t2: time },
         _ => Call::Tally { slots, t1: 0, t2: time },

@@ -1,4 +1,5 @@
 //! What was compared, counted, and which ground each call can meet.
+use crate::counted::Counted;
 use crate::pages_read::PagesRead;
 use crate::paired::Paired;
 use crate::stacks::ListFigures;
@@ -70,6 +71,8 @@ const NUMBERS_OF_CALLS: [&[usize]; CALLS] = [
     &[0, 1, 2, 3, 4, 6, 10],
     &[0, 1, 2, 3, 4, 6, 10],
     &[0, 5, 15],
+    &[0, 1, 2, 3, 4, 5, 7, 8, 10, 11],
+    &[0, 1, 2, 3, 9, 10],
     &[0, 1, 2, 3, 10, 13],
     &[0, 1, 2, 3, 10, 13, 14],
     &[0, 1, 2, 3, 10, 16],
@@ -85,6 +88,7 @@ pub struct Figures {
     pub pages_read: PagesRead,
     pub paired: Paired,
     pub tolerated: Tolerated,
+    pub counted: Counted,
     pub wrong_lengths: u64,
     /// Calls on stores of form 0, which the model alone answers.
     of_form_0: u64,
@@ -129,6 +133,7 @@ impl Figures {
         if form == Form::New {
             self.by_paper_log += 1;
             self.turns.count(call, said);
+            self.counted.count_said(call, said);
         }
     }
 
@@ -140,12 +145,13 @@ impl Figures {
         Call::NAMES.into_iter().chain(Carry::NAMES).chain([Pairs::NAME, Tolerant::NAME]).zip(&self.calls)
     }
 
-    /// Every pair of call and number that was not met, the generator's among them.
+    /// Every pair of call and number that was not met, the generator's among them, and every refusal for counts.
     pub fn missing(&self) -> Vec<String> {
         let rows = self.rows().zip(NUMBERS_OF_CALLS);
         let pairs = rows.flat_map(|((name, counts), numbers)| numbers.iter().map(move |n| (name, *n, counts[*n])));
         let pairs = pairs.chain(self.lists.pairs());
-        pairs.filter(|(_, _, count)| *count == 0).map(|(name, number, _)| format!("{name} {number}")).collect()
+        let missing = pairs.filter(|(_, _, count)| *count == 0).map(|(name, number, _)| format!("{name} {number}"));
+        missing.chain(self.counted.missing()).collect()
     }
 
     pub fn print(&self) {
@@ -162,5 +168,6 @@ impl Figures {
         self.pages_read.print();
         self.paired.print();
         self.tolerated.print();
+        self.counted.print();
     }
 }

@@ -19,6 +19,8 @@ pub struct Habits {
     drop_in: u64,
     search_in: u64,
     odd_in: u64,
+    /// Of four appends and drops so many keep counts, in form 1.
+    keeping: u64,
     /// Times and loads that were handed in; the store may have lost them since.
     lifts: Vec<(u64, i32)>,
     /// Times at which a segment began.
@@ -35,6 +37,7 @@ impl Habits {
             drop_in: random.pick(&[10, 200, 4000, 4000]),
             search_in: random.pick(&[4, 12, 40]),
             odd_in: random.pick(&[20, 60]),
+            keeping: random.pick(&[0, 0, 4, 4, 3]),
             lifts: Vec::new(),
             starts: Vec::new(),
         }
@@ -48,6 +51,20 @@ impl Habits {
     /// Loads from now on at the limits and elsewhere, close together or so far apart.
     pub fn set_loads_apart(&mut self, apart: i32, random: &mut Random) {
         self.loads = Loads::apart(apart, random);
+    }
+
+    /// Loads from now on at the ends of plates and beside them.
+    pub fn lift_at_plate_ends(&mut self) {
+        self.loads = Loads::AtPlateEnds;
+    }
+
+    /// From now on so many of four appends and drops keep counts.
+    pub fn keep_counts(&mut self, keeping: u64) {
+        self.keeping = keeping;
+    }
+
+    fn keeps(&self, trial: &mut Trial) -> bool {
+        trial.form == Form::New && trial.random.below(4) < self.keeping
     }
 
     /// From now on each lift later than the one before.
@@ -68,7 +85,7 @@ impl Habits {
             return trial.call(Call::Close { slots: self.slots });
         }
         if random.once_in(self.drop_in) {
-            return trial.call(Call::Drop { slots: self.slots });
+            return self.drop(trial);
         }
         if random.once_in(1000) {
             self.loads = Loads::any(random);
@@ -82,7 +99,8 @@ impl Habits {
         let time = self.times.after(last_time, &mut trial.random);
         let load = self.loads.next(&mut trial.random);
         let note = trial.random.note();
-        trial.call(Call::Append { slots: self.slots, time, load, note })?;
+        let keeps = self.keeps(trial);
+        trial.call(Call::Append { keeps, slots: self.slots, time, load, note })?;
         self.lifts.push((time, load));
         if trial.field(Field::Count) == 1 {
             self.starts.push(time);
@@ -92,6 +110,11 @@ impl Habits {
 
     pub fn close(&mut self, trial: &mut Trial) -> Step {
         trial.call(Call::Close { slots: self.slots })
+    }
+
+    pub fn drop(&mut self, trial: &mut Trial) -> Step {
+        let keeps = self.keeps(trial);
+        trial.call(Call::Drop { keeps, slots: self.slots })
     }
 
     /// A search, now and then a tally, a page, a plate or, in form 1, a tolerant search.
@@ -224,6 +247,7 @@ impl Habits {
     /// A call that grounds 1 and 4 to 9 are against, or that looks like one.
     fn odd_call(&mut self, trial: &mut Trial) -> Call {
         let last_time = trial.field(Field::Next);
+        let keeps = self.keeps(trial);
         let random = &mut trial.random;
         let slots = if random.once_in(4) { odd_slots(self.slots, random) } else { self.slots };
         let time = match random.below(3) {
@@ -243,8 +267,8 @@ impl Habits {
         }
         match random.below(9) {
             0 => Call::Close { slots },
-            1 => Call::Drop { slots },
-            2 | 3 => Call::Append { slots, time, load, note: random.note() },
+            1 => Call::Drop { keeps, slots },
+            2 | 3 => Call::Append { keeps, slots, time, load, note: random.note() },
             4 | 5 => tally_or_page(trial, slots, window.t1, window.t2),
             6 => Call::Plate { place: any_place(random), load },
             _ => Call::Search { slots, window, area_bytes: random.index(2000) },

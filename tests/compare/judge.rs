@@ -81,9 +81,16 @@ impl Judge {
     }
 
     /// Calls the library on the present chips with other areas of any length, past the script format.
-    pub fn call_with(&mut self, call: &Call, state: &mut [u8], rows: &mut [u8], answer: &mut [u8]) -> Option<u8> {
+    pub fn call_with(&mut self, call: &Call, state: &mut [u8], counts: &mut [u8], outputs: &mut Outputs) -> Option<u8> {
         let Areas { nand, nor, .. } = &mut self.tested.as_mut()?.world.areas;
-        Some(abi::enter(call, state, nand, nor, rows, answer))
+        let Outputs { rows, answer } = outputs;
+        Some(abi::enter(call, LentStore { state, nand, nor }, counts, rows, answer))
+    }
+
+    /// Has the library format the present chips with another state area of any length, and without counts.
+    pub fn plain_format_with(&mut self, slots: u64, state: &mut [u8]) -> Option<u8> {
+        let Areas { nand, nor, .. } = &mut self.tested.as_mut()?.world.areas;
+        Some(abi::enter_plain_format(slots, LentStore { state, nand, nor }))
     }
 
     /// Has the library carry the present store into these areas, with another state area of any length.
@@ -152,6 +159,11 @@ impl Judge {
             Command::Areas { .. } | Command::Poke { .. } | Command::SetField { .. } => {
                 self.reached[self.expected.selected()] = None
             }
+            Command::SetCount { plate, value } => {
+                if let Some(reached) = &mut self.reached[self.expected.selected()] {
+                    reached.set_count(*plate, *value);
+                }
+            }
         }
         self.expected.apply(command);
         if let Some(tested) = &mut self.tested {
@@ -165,6 +177,7 @@ impl Judge {
         let expected_number = Expectation.answer(form, call, &mut self.expected.areas, &mut expected_outputs);
         self.number = expected_number;
         self.figures.count_call(form, call, expected_number);
+        self.figures.counted.count_refusal(call, expected_number, &self.expected.areas);
         let is_reached = self.reached().is_some();
         if let Some(tested) = &mut self.tested {
             if is_reached {
@@ -190,7 +203,7 @@ impl Judge {
         let store = self.expected.selected();
         if let (Call::Format { slots }, 0) = (call, number) {
             self.reached[store] = Some(Reached::from_format(form, *slots));
-            return Ok(());
+            return self.hold_counts(command);
         }
         let Some(reached) = &mut self.reached[store] else { return Ok(()) };
         if !matches!(call, Call::Plate { .. }) && reached.log.form() != form {
@@ -219,7 +232,16 @@ impl Judge {
             [&tested.nor_before, &tested.world.areas.nor],
             &said,
         );
-        rules_kept.or_else(|broken| differ(command, broken))
+        rules_kept.or_else(|broken| differ(command, broken))?;
+        self.hold_counts(command)
+    }
+
+    /// The counts of a store reached from a format.
+    fn hold_counts(&mut self, command: &Command) -> Step {
+        let reached = self.reached[self.expected.selected()].as_ref();
+        let (Some(tested), Some(reached)) = (&mut self.tested, reached) else { return Ok(()) };
+        let held = self.figures.counted.check(reached, &mut tested.world.areas, &mut Library);
+        held.or_else(|broken| differ(command, broken))
     }
 
     /// The second store is compared, and the first, which no call changes.
@@ -344,7 +366,8 @@ fn compare_areas(command: &Command, of: &str, got: &Areas, expected: &Areas) -> 
     ];
     parts.iter().try_for_each(|(name, part)| {
         compare_bytes(command, &format!("{of}{name}"), got.part(*part), expected.part(*part))
-    })
+    })?;
+    compare_bytes(command, &format!("{of}counts"), &got.counts, &expected.counts)
 }
 
 fn compare_bytes(command: &Command, area: &str, got: &[u8], expected: &[u8]) -> Step {

@@ -1,9 +1,9 @@
-//! State and answer areas of wrong lengths: number 20 before everything else, nothing changed.
+//! State, counts and answer areas of wrong lengths: number 20 before everything else, nothing changed.
 use crate::judge::{Difference, Step};
 use crate::random::Random;
 use crate::trial::{Trial, NOR_BYTES};
 use abi::LentStore;
-use script::areas::SLOT_BYTES;
+use script::areas::{COUNTS_BYTES, SLOT_BYTES};
 use script::calls::{Call, Carry, Outputs, Pairs, Tolerant, Window, UNTOUCHED};
 use script::command::Command;
 use script::form::Form;
@@ -17,6 +17,12 @@ const ANSWER_LENGTHS: [usize; 7] = [8, 16, 32, 168, 176, 943, 984];
 fn wrong_length(form: Form, random: &mut Random) -> usize {
     let right = form.state_bytes();
     random.pick(&[0, 1, right - 1, right + 1, 2 * right, form.other().state_bytes()])
+}
+
+/// A length that no counts have: of a plate less or more, of a tally's counts, of a state.
+fn wrong_counts_length(random: &mut Random) -> usize {
+    let right = COUNTS_BYTES;
+    random.pick(&[0, 1, right - 4, right - 1, right + 1, right + 4, 2 * right, Form::New.state_bytes()])
 }
 
 /// A length that this answer area does not have; it may be another call's.
@@ -45,53 +51,72 @@ pub fn try_wrong_ones(trial: &mut Trial, slots: u64) -> Step {
     let window = Window { t1: 0, t2: time, k1: -10, k2: 10 };
     let calls = [
         Call::Format { slots },
-        Call::Append { slots, time, load: 100, note: trial.random.note() },
+        Call::Append { keeps: false, slots, time, load: 100, note: trial.random.note() },
+        Call::Append { keeps: true, slots, time, load: 100, note: trial.random.note() },
         Call::Close { slots },
-        Call::Drop { slots },
+        Call::Drop { keeps: false, slots },
+        Call::Drop { keeps: true, slots },
         Call::Search { slots, window, area_bytes: 64 },
         Call::Tally { slots, t1: 0, t2: time },
         Call::Page { slots, t1: 0, t2: time },
         Call::Plate { place: trial.random.below(3), load: 251 },
     ];
     calls.iter().try_for_each(|call| try_wrong_one(trial, call))?;
+    try_wrong_plain_format(trial, slots)?;
     let tolerance = trial.random.pick(&[0, 1, 1_000, 1_001]);
     try_wrong_tolerant(trial, &Tolerant { slots, window, tolerance, area_bytes: [64; 2] })
 }
 
-/// Whether the state area and the answer area get a wrong length; one of the two does.
-fn which_are_wrong(call: &Call, random: &mut Random) -> (bool, bool) {
+/// Whether the state area, the counts and the answer area get a wrong length; one of those that the call has does.
+fn which_are_wrong(call: &Call, random: &mut Random) -> [bool; 3] {
+    let [yes, no] = [true, false];
     match call {
-        Call::Plate { .. } => (false, true),
+        Call::Plate { .. } => [no, no, yes],
         Call::Search { .. } | Call::Tally { .. } | Call::Page { .. } => {
-            random.pick(&[(true, false), (false, true), (true, true)])
+            random.pick(&[[yes, no, no], [no, no, yes], [yes, no, yes]])
         }
-        _ => (true, false),
+        _ if call.has_counts() => random.pick(&[[yes, no, no], [no, yes, no], [yes, yes, no]]),
+        _ => [yes, no, no],
     }
 }
 
 fn try_wrong_one(trial: &mut Trial, call: &Call) -> Step {
     let mut outputs = Outputs::untouched(Form::New, call);
     let mut state = trial.areas().state.clone();
-    let (wrong_state, wrong_answer) = which_are_wrong(call, &mut trial.random);
+    let mut counts = trial.areas().counts.clone();
+    let [wrong_state, wrong_counts, wrong_answer] = which_are_wrong(call, &mut trial.random);
     if wrong_state {
         state.resize(wrong_length(Form::New, &mut trial.random), 0);
+    }
+    if wrong_counts {
+        counts.resize(wrong_counts_length(&mut trial.random), 0);
     }
     if wrong_answer {
         let length = wrong_answer_length(outputs.answer.len(), &mut trial.random);
         outputs.answer.resize(length, UNTOUCHED);
     }
-    let (state_before, outputs_before) = (state.clone(), outputs.clone());
-    let number = trial.judge.call_with(call, &mut state, &mut outputs.rows, &mut outputs.answer);
-    let Some(number) = number else { return Ok(()) };
+    let before = (state.clone(), counts.clone(), outputs.clone());
+    let Some(number) = trial.judge.call_with(call, &mut state, &mut counts, &mut outputs) else { return Ok(()) };
     let lengths = format!(
-        "{} {call} with a state area of {} and an answer area of {} bytes",
+        "{} {call} with a state area of {}, counts of {} and an answer area of {} bytes",
         call.name(),
         state.len(),
+        counts.len(),
         outputs.answer.len()
     );
-    let changed = state != state_before || outputs != outputs_before;
-    check_refusal(trial, number, changed, &lengths)?;
+    check_refusal(trial, number, (state, counts, outputs) != before, &lengths)?;
     trial.judge.compare_areas(&Command::Call(Form::New, call.clone()))
+}
+
+/// The format of a script sets counts to 0; this is the one that knows of none.
+fn try_wrong_plain_format(trial: &mut Trial, slots: u64) -> Step {
+    let mut state = trial.areas().state.clone();
+    state.resize(wrong_length(Form::New, &mut trial.random), 0);
+    let before = state.clone();
+    let Some(number) = trial.judge.plain_format_with(slots, &mut state) else { return Ok(()) };
+    let lengths = format!("a format without counts with a state area of {} bytes", state.len());
+    check_refusal(trial, number, state != before, &lengths)?;
+    trial.judge.compare_areas(&Command::Call(Form::New, Call::Format { slots }))
 }
 
 /// Tries both conversions on the present areas, with one state area of a wrong length or with two.

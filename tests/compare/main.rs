@@ -2,6 +2,8 @@
 //! random inputs.
 mod bases;
 mod convert;
+mod counted;
+mod counts;
 mod damage;
 mod edges;
 mod figures;
@@ -40,7 +42,7 @@ const USAGE: &str = "compare random SECONDS SEED FOLDER | compare fixed SCRIPT..
 
 type Kind = (&'static str, fn(&mut Trial) -> Step);
 const LARGE: Kind = ("large", lists::on_largest_chip);
-const KINDS: [Kind; 9] = [
+const KINDS: [Kind; 10] = [
     ("list", lists::short_or_long),
     ("damage", damage::rounds),
     ("state", states::rounds),
@@ -49,6 +51,7 @@ const KINDS: [Kind; 9] = [
     ("walk", walks::rounds),
     ("pairs", pairs::rounds),
     ("tolerant", tolerant::rounds),
+    ("counts", counts::rounds),
     LARGE,
 ];
 
@@ -56,7 +59,7 @@ const KINDS: [Kind; 9] = [
 fn kind_at(place: u64) -> Kind {
     match place {
         place if place % 1000 == 100 => LARGE,
-        place => KINDS[[0, 1, 4, 6, 7, 0, 5, 1, 2, 0, 6, 7, 4, 1, 3][(place % 15) as usize]],
+        place => KINDS[[0, 1, 4, 6, 7, 8, 0, 5, 1, 2, 0, 8, 6, 7, 4, 1, 3][(place % 17) as usize]],
     }
 }
 

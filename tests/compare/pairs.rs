@@ -144,12 +144,12 @@ impl Gym {
         note[..4].copy_from_slice(&member.to_le_bytes());
         let load = loads.next(random);
         let (closes, drops) = (random.once_in(self.close_in), random.once_in(self.drop_in));
-        trial.call(Call::Append { slots, time: self.time, load, note })?;
+        trial.call(Call::Append { keeps: false, slots, time: self.time, load, note })?;
         if closes {
             trial.call(Call::Close { slots })?;
         }
         if drops {
-            trial.call(Call::Drop { slots })?;
+            trial.call(Call::Drop { keeps: false, slots })?;
         }
         Ok(())
     }

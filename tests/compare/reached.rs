@@ -1,6 +1,8 @@
 //! A store reached from a format: its paper log, which goes along where it is carried over, and W-203's claims of it.
+use crate::counted::Balance;
 use crate::judge::first_difference;
 use crate::trial::NOR_BYTES;
+use model::counts::Counts;
 use model::limits::{Outcome, NO_WAY_BACK};
 use model::paper::{PaperLog, Said};
 use script::areas::{Areas, SLOT_BYTES};
@@ -14,11 +16,13 @@ pub struct Reached {
     pub log: PaperLog,
     /// The store that it was carried from, as long as no call has changed it since.
     carried_from: Option<Rc<Areas>>,
+    /// None once an append or a drop has kept no counts, or these were changed from outside.
+    pub balance: Option<Balance>,
 }
 
 impl Reached {
     pub fn from_format(form: Form, slots: u64) -> Reached {
-        Reached { log: PaperLog::formatted(form, slots), carried_from: None }
+        Reached { log: PaperLog::formatted(form, slots), carried_from: None, balance: Some(Balance::default()) }
     }
 
     pub fn call(&mut self, call: &Call) -> Outcome<Said> {
@@ -26,10 +30,17 @@ impl Reached {
         if matches!(call, Call::Append { .. } | Call::Close { .. } | Call::Drop { .. }) {
             self.carried_from = None;
         }
+        self.balance = self.balance.take().and_then(|balance| balance.after(call, &said));
         Ok(said)
     }
 
-    /// Holds a conversion of this store, which was `first` before, to W-203; what is then known of the second store.
+    pub fn set_count(&mut self, plate: usize, value: u32) {
+        self.log.counts.set(plate, value);
+        self.balance = None;
+    }
+
+    /// Holds a conversion of this store, which was `first` before, to W-203; what is then known of the second store, whose
+    /// counts stay as they are.
     pub fn carried(&self, carry: &Carry, number: u8, first: Rc<Areas>, second: &Areas) -> Result<Reached, String> {
         if carry.slots == self.log.slots() && fits(second, carry.slots) {
             self.check_number(carry.into, number)?;
@@ -37,7 +48,9 @@ impl Reached {
         if let (0, Some(origin)) = (number, &self.carried_from) {
             check_round_trip(origin, second, carry.into)?;
         }
-        Ok(Reached { log: self.log.clone().carried_into(carry.into), carried_from: Some(first) })
+        let mut log = self.log.clone().carried_into(carry.into);
+        log.counts = Counts::from_bytes(&second.counts);
+        Ok(Reached { log, carried_from: Some(first), balance: None })
     }
 
     /// "14: going back, a retained lift is no later than the one before it, or" by pointers that no log knows of

@@ -46,7 +46,7 @@ pub fn move_to_bound(trial: &mut Trial, slots: u64) -> Step {
 }
 
 /// Both serials moved up to the last ones, as far apart as they were.
-fn move_serials(trial: &mut Trial) -> Step {
+pub fn move_serials(trial: &mut Trial) -> Step {
     let apart = trial.field(Field::Open).wrapping_sub(trial.field(Field::Oldest));
     let open = u64::from(LAST_SERIAL) + 1 - trial.random.below(4);
     trial.set(Field::Open, open.into())?;

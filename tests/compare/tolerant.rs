@@ -69,7 +69,7 @@ fn loads_apart(trial: &mut Trial, tolerance: u64) -> Result<Habits, Difference> 
                 habits.close(trial)?;
             }
             if trial.random.once_in(drop_in) {
-                trial.call(Call::Drop { slots })?;
+                habits.drop(trial)?;
             }
         }
         search(trial, &habits, tolerance, 8)?;

@@ -35,7 +35,7 @@ fn short_segments(trial: &mut Trial) -> Step {
         }
         habits.close(trial)?;
         if trial.random.once_in(drop_in) {
-            trial.call(Call::Drop { slots })?;
+            habits.drop(trial)?;
         }
         habits.search_early(trial)?;
     }

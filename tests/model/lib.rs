@@ -1,7 +1,8 @@
-//! Document 01, with W-201 to W-209, read a second time: the paper log, the programs' inputs, and an expectation of every
+//! Document 01, with W-201 to W-210, read a second time: the paper log, the programs' inputs, and an expectation of every
 //! byte.
 pub mod answers;
 pub mod bytes;
+pub mod counts;
 pub mod limits;
 pub mod lines;
 pub mod load_tree;

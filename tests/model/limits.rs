@@ -9,6 +9,8 @@ pub const GREATEST_LOAD: i32 = 100_000;
 pub const LOAD_SHIFT: i64 = 50_001;
 /// "d from 0 to 1,000" (W-209)
 pub const MOST_TOLERANCE: u64 = 1_000;
+/// "Counts with a sum above 1,310,720 break ground 3" (W-210)
+pub const MOST_COUNTED: u64 = 1_310_720;
 pub const LAST_SERIAL: u32 = 999_999_999;
 pub const SEGMENT_LIFTS: usize = 320;
 pub const SEGMENT_BUCKETS: usize = 36;

@@ -25,9 +25,11 @@ pub fn asked(line: &[u8]) -> Option<Asked> {
     let (letter, rest) = line.split_first()?;
     let mut columns = Columns(rest);
     let call = match letter {
-        b'A' => Call::Append { slots: SLOTS, time: columns.time()?, load: columns.load()?, note: [0; 20] },
+        b'A' => {
+            Call::Append { keeps: false, slots: SLOTS, time: columns.time()?, load: columns.load()?, note: [0; 20] }
+        }
         b'C' => Call::Close { slots: SLOTS },
-        b'G' => Call::Drop { slots: SLOTS },
+        b'G' => Call::Drop { keeps: false, slots: SLOTS },
         b'Q' => Call::Search { slots: SLOTS, window: columns.window()?, area_bytes: RESULT_ROWS * ROW_BYTES },
         b'T' => Call::Tally { slots: SLOTS, t1: columns.time()?, t2: columns.time()? },
         b'P' => Call::Page { slots: SLOTS, t1: columns.time()?, t2: columns.time()? },
@@ -96,10 +98,10 @@ mod tests {
         let (t1, t2) = (7, 999_999_999_999_999);
         let window = Window { t1: 0, t2: 3000, k1: -251, k2: 1000 };
         let forms = [
-            ("A           1000     250", Call::Append { slots: 2, time: 1000, load: 250, note: [0; 20] }),
-            ("A000000000000000-0000001", Call::Append { slots: 2, time: 0, load: -1, note: [0; 20] }),
+            ("A           1000     250", Call::Append { keeps: false, slots: 2, time: 1000, load: 250, note: [0; 20] }),
+            ("A000000000000000-0000001", Call::Append { keeps: false, slots: 2, time: 0, load: -1, note: [0; 20] }),
             ("C", Call::Close { slots: 2 }),
-            ("G", Call::Drop { slots: 2 }),
+            ("G", Call::Drop { keeps: false, slots: 2 }),
             ("Q              0           3000    -251    1000", Call::Search { slots: 2, window, area_bytes: 10_240 }),
             ("T              7999999999999999", Call::Tally { slots: 2, t1, t2 }),
             ("P              7999999999999999", Call::Page { slots: 2, t1, t2 }),

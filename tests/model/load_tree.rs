@@ -64,6 +64,11 @@ pub struct LoadTree {
 }
 
 impl LoadTree {
+    /// Whether the segment has to close before it takes this load.
+    pub fn needs_bucket_36(&self, load: i32) -> bool {
+        self.buckets == SEGMENT_BUCKETS && !self.clone().take(load)
+    }
+
     /// Takes the next load of the segment, or returns false, unchanged, if it needs bucket 36.
     pub fn take(&mut self, load: i32) -> bool {
         let mut before = [0; 13];

@@ -1,4 +1,6 @@
-//! Document 01, "Paper log": lists of lifts under serials. It never sees chips, state or answers.
+//! Document 01, "Paper log": lists of lifts under serials, and W-210's counts beside them. It never sees chips, state or
+//! answers.
+use crate::counts::Counts;
 use crate::limits::*;
 use crate::load_tree::LoadTree;
 use crate::plate::plate_of;
@@ -41,6 +43,8 @@ pub enum Closed {
 pub struct Said {
     /// A serial that went: its slot, and no other, is erased in this call.
     pub gone: Option<u64>,
+    /// How many lifts went with it.
+    pub lifts_gone: u64,
     pub closed: Option<Closed>,
     /// An append at the time of the one before it.
     pub repeats_time: bool,
@@ -74,6 +78,8 @@ pub struct PaperLog {
     open_tree: LoadTree,
     /// The last accepted time; none after the format.
     last_time: Option<u64>,
+    /// The counts that calls of form 1 may keep.
+    pub counts: Counts,
 }
 
 impl PaperLog {
@@ -86,6 +92,7 @@ impl PaperLog {
             open_serial: 1,
             open_tree: LoadTree::default(),
             last_time: None,
+            counts: Counts::ZERO,
         }
     }
 
@@ -137,7 +144,7 @@ impl PaperLog {
             Call::Format { slots }
             | Call::Append { slots, .. }
             | Call::Close { slots }
-            | Call::Drop { slots }
+            | Call::Drop { slots, .. }
             | Call::Search { slots, .. }
             | Call::Tally { slots, .. }
             | Call::Page { slots, .. }
@@ -149,37 +156,61 @@ impl PaperLog {
                 *self = PaperLog::formatted(self.form, slots);
                 Ok(Said::default())
             }
-            Call::Append { time, load, note, .. } => self.append(Lift { time, load, note }),
+            Call::Append { keeps, time, load, note, .. } => self.append(keeps, Lift { time, load, note }),
             Call::Close { .. } => self.close(),
-            Call::Drop { .. } => self.drop_oldest(),
+            Call::Drop { keeps, .. } => self.drop_oldest(keeps),
             Call::Search { window, area_bytes, .. } => self.search(&window, area_bytes / ROW_BYTES),
             Call::Tally { t1, t2, .. } => self.tally(t1, t2),
             Call::Page { t1, t2, .. } => self.service_page(t1, t2),
         }
     }
 
-    fn append(&mut self, lift: Lift) -> Outcome<Said> {
+    fn append(&mut self, keeps: bool, lift: Lift) -> Outcome<Said> {
+        self.check_counts(keeps)?;
         refuse_if(time_past_limit(lift.time), TIME_LIMIT)?;
         refuse_if(load_past_limit(lift.load), LOAD_LIMIT)?;
         refuse_if(lift.time < self.next_time(), TIME_BELOW_NEXT)?;
         refuse_if(self.open_serial >= u64::from(LAST_SERIAL) - 1, LAST_SERIALS)?;
-        let mut said = Said { repeats_time: Some(lift.time) == self.last_time, ..Said::default() };
-        if self.open.len() == SEGMENT_LIFTS {
-            said.closed = Some(Closed::At320Lifts);
-        } else if !self.open_tree.take(lift.load) {
-            said.closed = Some(Closed::ForBucket36);
+        let closed = if self.open.len() == SEGMENT_LIFTS {
+            Some(Closed::At320Lifts)
+        } else if self.open_tree.needs_bucket_36(lift.load) {
+            Some(Closed::ForBucket36)
+        } else {
+            None
+        };
+        let serial = self.open_serial + u64::from(closed.is_some());
+        let is_forced = serial > self.slots && self.oldest_serial() <= serial - self.slots;
+        let said = if is_forced { self.lose_oldest(keeps)? } else { Said::default() };
+        if keeps {
+            self.counts.add(lift.load);
         }
-        if said.closed.is_some() {
+        if closed.is_some() {
             self.begin_next_serial();
-            self.open_tree.take(lift.load);
         }
+        self.open_tree.take(lift.load);
+        let repeats_time = Some(lift.time) == self.last_time;
         self.last_time = Some(lift.time);
         self.open.push(lift);
-        if self.open_serial > self.slots && self.oldest_serial() <= self.open_serial - self.slots {
-            said.gone = Some(self.open_serial - self.slots);
-            self.closed.pop_front();
+        Ok(Said { closed, repeats_time, ..said })
+    }
+
+    /// "Counts with a sum above 1,310,720 break ground 3", for a call that keeps them.
+    fn check_counts(&self, keeps: bool) -> Outcome<()> {
+        if keeps {
+            self.counts.check_sum()?;
         }
-        Ok(said)
+        Ok(())
+    }
+
+    /// The oldest closed segment goes and, if the call keeps counts, leaves them; the one ground against that is damage.
+    fn lose_oldest(&mut self, keeps: bool) -> Outcome<Said> {
+        let gone = self.oldest_serial();
+        if keeps {
+            let lost = Counts::of(self.closed[0].iter().map(|lift| lift.load));
+            self.counts = self.counts.less(&lost)?;
+        }
+        let lifts = self.closed.pop_front().map_or(0, |lifts| lifts.len() as u64);
+        Ok(Said { gone: Some(gone), lifts_gone: lifts, ..Said::default() })
     }
 
     fn begin_next_serial(&mut self) {
@@ -194,11 +225,10 @@ impl PaperLog {
         Ok(Said { closed: Some(Closed::ByClose), ..Said::default() })
     }
 
-    fn drop_oldest(&mut self) -> Outcome<Said> {
+    fn drop_oldest(&mut self, keeps: bool) -> Outcome<Said> {
+        self.check_counts(keeps)?;
         refuse_if(self.closed.is_empty(), NOTHING_TO_DO)?;
-        let gone = Some(self.oldest_serial());
-        self.closed.pop_front();
-        Ok(Said { gone, ..Said::default() })
+        self.lose_oldest(keeps)
     }
 
     /// The lifts of a window, or the first of grounds 4 to 6 against it.

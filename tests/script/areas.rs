@@ -5,12 +5,16 @@ use crate::form::Form;
 
 pub const PAGE_BYTES: usize = 512;
 pub const SLOT_BYTES: usize = 32 * PAGE_BYTES;
+/// "Kept counts are an area of 88 bytes, 4 each" (W-214)
+pub const COUNT_BYTES: usize = 4;
+pub const COUNTS_BYTES: usize = COUNT_BYTES * Form::New.counts();
 
-/// Two chips, and a state of either form.
+/// Two chips, a state of either form, and the kept counts beside that of form 1.
 #[derive(Clone, PartialEq)]
 pub struct Areas {
     pub old_state: Vec<u8>,
     pub state: Vec<u8>,
+    pub counts: Vec<u8>,
     pub nand: Vec<u8>,
     pub nor: Vec<u8>,
 }
@@ -26,10 +30,10 @@ fn empty_state(form: Form) -> Vec<u8> {
 }
 
 impl Areas {
-    /// Where a script begins: no chips, empty states.
+    /// Where a script begins: no chips, empty states, counts of 0.
     pub fn empty() -> Areas {
         let [old_state, state] = [Form::Old, Form::New].map(empty_state);
-        Areas { old_state, state, nand: Vec::new(), nor: Vec::new() }
+        Areas { old_state, state, counts: vec![0; COUNTS_BYTES], nand: Vec::new(), nor: Vec::new() }
     }
 
     pub fn state_of(&self, form: Form) -> &[u8] {
@@ -57,6 +61,12 @@ impl Areas {
     fn set_field(&mut self, field: Field, value: i128) {
         let (offset, width) = field.place(Form::New);
         self.state[offset..offset + width].copy_from_slice(&value.to_le_bytes()[..width]);
+    }
+
+    fn set_count(&mut self, plate: usize, value: u32) {
+        if let Some(count) = self.counts.chunks_mut(COUNT_BYTES).nth(plate) {
+            count.copy_from_slice(&value.to_le_bytes());
+        }
     }
 }
 
@@ -140,6 +150,7 @@ impl World {
                 }
             }
             Command::SetField { field, value } => self.areas.set_field(*field, *value),
+            Command::SetCount { plate, value } => self.areas.set_count(*plate, *value),
             Command::Use(store) => self.select(*store),
             Command::Snap => {
                 let (areas, others) = (self.areas.clone(), self.others.clone());

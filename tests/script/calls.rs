@@ -19,13 +19,13 @@ pub struct Window {
 }
 
 /// The seven calls of document 01 and the service page (W-201), which form 0 has not; a plate is looked up on the stack at a
-/// place (W-205).
+/// place (W-205). In form 1 an append and a drop may keep counts, and a format sets them to 0 (W-210).
 #[derive(Clone, Debug, PartialEq)]
 pub enum Call {
     Format { slots: u64 },
-    Append { slots: u64, time: u64, load: i32, note: [u8; 20] },
+    Append { keeps: bool, slots: u64, time: u64, load: i32, note: [u8; 20] },
     Close { slots: u64 },
-    Drop { slots: u64 },
+    Drop { keeps: bool, slots: u64 },
     Search { slots: u64, window: Window, area_bytes: usize },
     Tally { slots: u64, t1: u64, t2: u64 },
     Page { slots: u64, t1: u64, t2: u64 },
@@ -33,24 +33,36 @@ pub enum Call {
 }
 
 impl Call {
-    pub const NAMES: [&'static str; 8] = ["format", "append", "close", "drop", "search", "tally", "page", "plate"];
+    pub const NAMES: [&'static str; 10] =
+        ["format", "append", "close", "drop", "search", "tally", "page", "plate", "appendk", "dropk"];
 
     /// The call's place in `NAMES`.
     pub fn kind(&self) -> usize {
         match self {
             Call::Format { .. } => 0,
-            Call::Append { .. } => 1,
+            Call::Append { keeps: false, .. } => 1,
             Call::Close { .. } => 2,
-            Call::Drop { .. } => 3,
+            Call::Drop { keeps: false, .. } => 3,
             Call::Search { .. } => 4,
             Call::Tally { .. } => 5,
             Call::Page { .. } => 6,
             Call::Plate { .. } => 7,
+            Call::Append { keeps: true, .. } => 8,
+            Call::Drop { keeps: true, .. } => 9,
         }
     }
 
     pub fn name(&self) -> &'static str {
         Self::NAMES[self.kind()]
+    }
+
+    /// Whether it is lent the counts, in form 1.
+    pub fn has_counts(&self) -> bool {
+        match self {
+            Call::Format { .. } => true,
+            Call::Append { keeps, .. } | Call::Drop { keeps, .. } => *keeps,
+            _ => false,
+        }
     }
 
     /// Of a search count and pages read. A page has a heading, a line for each plate and a total.

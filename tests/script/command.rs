@@ -97,6 +97,7 @@ pub enum Command {
     Areas { nand_bytes: usize, nor_bytes: usize, fill: Fill },
     Poke { part: Part, offset: usize, value: u8 },
     SetField { field: Field, value: i128 },
+    SetCount { plate: usize, value: u32 },
     Snap,
     Back,
     Call(Form, Call),
@@ -134,8 +135,8 @@ pub fn command_name(form: Form, call: &Call) -> String {
 impl fmt::Display for Call {
     fn fmt(&self, out: &mut fmt::Formatter) -> fmt::Result {
         match self {
-            Call::Format { slots } | Call::Close { slots } | Call::Drop { slots } => write!(out, "{slots}"),
-            Call::Append { slots, time, load, note } => write!(out, "{slots} {time} {load} {}", hex(note)),
+            Call::Format { slots } | Call::Close { slots } | Call::Drop { slots, .. } => write!(out, "{slots}"),
+            Call::Append { slots, time, load, note, .. } => write!(out, "{slots} {time} {load} {}", hex(note)),
             Call::Search { slots, window, area_bytes } => write!(out, "{slots} {window} {area_bytes}"),
             Call::Tally { slots, t1, t2 } | Call::Page { slots, t1, t2 } => write!(out, "{slots} {t1} {t2}"),
             Call::Plate { place, load } => write!(out, "{place} {load}"),
@@ -157,6 +158,7 @@ impl fmt::Display for Command {
             Command::Areas { nand_bytes, nor_bytes, fill } => write!(out, "areas {nand_bytes} {nor_bytes} {fill}"),
             Command::Poke { part, offset, value } => write!(out, "{} {offset} {value}", part.name()),
             Command::SetField { field, value } => write!(out, "fields {} {value}", field.name()),
+            Command::SetCount { plate, value } => write!(out, "counts {plate} {value}"),
             Command::Snap => write!(out, "snap"),
             Command::Back => write!(out, "back"),
             Command::Call(form, call) => write!(out, "{} {call}", command_name(*form, call)),

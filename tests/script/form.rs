@@ -32,7 +32,7 @@ impl Form {
         }
     }
 
-    /// How many counts a tally has: one for each plate, from 0 on.
+    /// How many counts a tally has, and in form 1 are kept: one for each plate, from 0 on.
     pub const fn counts(self) -> usize {
         self.last_plate() + 1
     }

@@ -133,6 +133,9 @@ impl<S: Store> Interpreter<S> {
         if !matches!(call, Call::Plate { .. } | Call::Page { .. }) {
             line += &hashes(&self.world.areas, form, &mut self.nand_hash);
         }
+        if form == Form::New && call.has_counts() {
+            line += &format!(" counts={:016x}", fnv1a(&self.world.areas.counts));
+        }
         line + "\n"
     }
 

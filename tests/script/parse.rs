@@ -70,9 +70,12 @@ impl<'a> Words<'a> {
         let slots = self.number()?;
         match name {
             "format" => Ok(Call::Format { slots }),
-            "append" => Ok(Call::Append { slots, time: self.number()?, load: self.number()?, note: self.note()? }),
+            "append" | "appendk" => {
+                let (time, load, note) = (self.number()?, self.number()?, self.note()?);
+                Ok(Call::Append { keeps: name == "appendk", slots, time, load, note })
+            }
             "close" => Ok(Call::Close { slots }),
-            "drop" => Ok(Call::Drop { slots }),
+            "drop" | "dropk" => Ok(Call::Drop { keeps: name == "dropk", slots }),
             "search" => Ok(Call::Search { slots, window: self.window()?, area_bytes: self.number()? }),
             "tally" => Ok(Call::Tally { slots, t1: self.number()?, t2: self.number()? }),
             "page" => Ok(Call::Page { slots, t1: self.number()?, t2: self.number()? }),
@@ -80,10 +83,11 @@ impl<'a> Words<'a> {
         }
     }
 
-    /// A call of form 0 has a 0 after its name; it has no page, and a plate is looked up without a store.
+    /// A call of form 0 has a 0 after its name; it has no page, keeps no counts, and a plate is looked up without a store.
     fn call_of_form(&mut self, name: &str) -> Result<Command, String> {
+        let of_form_1 = ["page", "plate", "appendk", "dropk"];
         match name.strip_suffix('0') {
-            Some(old) if !["page", "plate"].contains(&old) => Ok(Command::Call(Form::Old, self.call(old)?)),
+            Some(old) if !of_form_1.contains(&old) => Ok(Command::Call(Form::Old, self.call(old)?)),
             _ => Ok(Command::Call(Form::New, self.call(name)?)),
         }
     }
@@ -111,6 +115,7 @@ impl<'a> Words<'a> {
             "state0" => self.poke(Part::State(Form::Old)),
             "state1" => self.poke(Part::State(Form::New)),
             "fields" => Ok(Command::SetField { field: self.named(&Field::ALL)?, value: self.number()? }),
+            "counts" => Ok(Command::SetCount { plate: self.number()?, value: self.number()? }),
             "snap" => Ok(Command::Snap),
             "back" => Ok(Command::Back),
             "rows" => Ok(Command::Rows),

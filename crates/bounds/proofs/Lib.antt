@@ -1,3 +1,4 @@
 pub mod Grounds
 pub mod Tests
 pub mod Within
+pub mod TriedFirst

@@ -12,6 +12,10 @@ use Rattle.lift.specs.Limits.{timeOk, loadOk}
 abbrev pub ground : ℕ → Bool → ℕ → ℕ
 ground n holds rest = cond holds n rest
 
+-- of two numbers that grounds gave, the one that is tried first: the smaller, 0 where no ground holds
+unfoldable pub sooner : ℕ → ℕ → ℕ
+sooner a b = cond (eqb a 0) b (cond (eqb b 0) a (cond (ltb b a) b a))
+
 -- "1. S is outside 2 to 4,096, or NAND length is not S slots."
 abbrev pub slotsLeast : ℕ
 slotsLeast = 2

@@ -8,6 +8,7 @@ ghost use mathlib.Core.List.{map};
 ghost use Rattle.lift.specs.Limits as Limits;
 ghost use Rattle.form.specs.declared.Form.the-variants.{Old, New};
 ghost use Rattle.bounds.specs.Bounds.{serialsOk, countsOk, timesOk, spanOk, loadsOk};
+ghost use Rattle.bounds.specs.Grounds as Grounds;
 ghost use Rattle.bounds.specs.Grounds.{formatGround, liftGround, queryGround};
 ghost use Rattle.bounds.specs.Lifts as Lifts;
 
@@ -25,6 +26,22 @@ const SERIAL_MOST: u32 = 999999999;
 const NEXT_MOST: u64 = lift::TIME_LIMIT;
 
 const START_MOST: u64 = lift::TIME_LIMIT + 1;
+
+// Of two numbers that grounds gave, the one that is tried first.
+pub fn sooner(a: u8, b: u8) -> u8
+    ensures { λ r. ⌜ r ≡ Grounds.sooner a b ⌝ }
+{
+    if a == 0 {
+        return b;
+    }
+    if b == 0 {
+        return a;
+    }
+    if b < a {
+        return b;
+    }
+    a
+}
 
 // The range of S comes first: the bytes of so many slots fit.
 pub fn chips_ground(nand: usize, nor: usize, slots: u64) -> u8

@@ -1,5 +1,6 @@
 // What a call over byte areas leaves in its caller's areas: written if the call was accepted, else as it was. A state has 783 bytes, 775
 // in form 0, the other answers are 8-byte numbers, a service page its text.
+use keeping::Counted;
 use plate::PLATES;
 use store::Answer;
 use store::OldState;
@@ -14,6 +15,7 @@ ghost use Rattle.plate.specs.Plate.{plates};
 ghost use Rattle.service_page.specs.Page.{pageBytes, pageOf};
 ghost use Rattle.loads.specs.Signed.{sideBySide};
 ghost use Rattle.state_bytes.specs.StateBytes.{stateBytes, oldStateBytes, areaLength};
+ghost use Rattle.counts.specs.CountsBytes.{countsLength, countsBytes};
 ghost use Rattle.kept.specs.Kept.{kept};
 
 // A count, or a plate.
@@ -38,7 +40,36 @@ pub fn keep_state(area: &mut [u8], a: Answer) -> u8
     a.number
 }
 
-// The same for a state of form 0.
+// The next counts go into their area if the call was accepted.
+fn keep_kept(area: &mut [u8], number: u8, counts: [u32; PLATES])
+    requires { ⌜ length (now area) ≡ countsLength ⌝ }
+    ensures { λ _. ⌜ now (area .exit) ≡ kept number (countsBytes counts) (now (area .entry)) ⌝ }
+{
+    if number == 0 {
+        counts::area::put_counts(area, counts);
+    }
+}
+
+// The next state and the next counts.
+pub fn keep_counted(area: &mut [u8], counts: &mut [u8], a: Counted) -> u8
+    requires { ⌜ (length (now area) ≡ areaLength New) × (length (now counts) ≡ countsLength) ⌝ }
+    ensures number { λ r. ⌜ r ≡ a .number ⌝ }
+    ensures state { λ _. ⌜ now (area .exit) ≡ kept (a .number) (stateBytes (a .state)) (now (area .entry)) ⌝ }
+    ensures counts { λ _. ⌜ now (counts .exit) ≡ kept (a .number) (countsBytes (a .counts)) (now (counts .entry)) ⌝ }
+{
+    let s = a.state;
+    let c = a.counts;
+    keep_kept(counts, a.number, c);
+    keep_state(
+        area,
+        Answer {
+            number: a.number,
+            state: s,
+        },
+    )
+}
+
+// A state of form 0.
 pub fn keep_old_state(area: &mut [u8], n: u8, s: OldState) -> u8
     requires { ⌜ length (now area) ≡ areaLength Old ⌝ }
     ensures number { λ r. ⌜ r ≡ n ⌝ }

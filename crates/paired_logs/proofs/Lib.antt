@@ -1,2 +1,1 @@
-pub mod AllFound
 pub mod PairedLogs

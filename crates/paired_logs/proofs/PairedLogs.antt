@@ -9,6 +9,7 @@ use Prim.Native.Nat.{ℕ, _≤_}
 use lib.Dec.{ltb}
 use lib.ListN.{length}
 use Rattle.codec.specs.Area.{splice}
+use Rattle.bounds.specs.Grounds.{sooner}
 use Rattle.search.specs.Answers.{rowBytes}
 use Rattle.form.specs.declared.Form.{Form}
 use Rattle.store.specs.World.{World}
@@ -16,14 +17,14 @@ use Rattle.store.specs.Calls.{formatOutcome}
 use Rattle.paper_log.specs.Log.{Log, begun}
 use Rattle.paper_log.specs.Calls as Paper
 use Rattle.refinement.specs.Run.{Request, callOf, runAfter, AllTyped}
+use Rattle.refinement.proofs.AllFound.{no-ground, all-rows}
 use Rattle.round_trips.specs.Reaches.{Chips, Reaches}
 use Rattle.round_trips.proofs.Known.{Known, known}
 use Rattle.round_trips.proofs.RoundTrips.{after-calls}
 use Rattle.supersets.specs.Pairs.{pairRows}
 use Rattle.pairs.specs.Answers.{PairsAnswer, wholePairs, refusedPairs, listed, pairsAnswer}
-use Rattle.pairs.specs.Call.{wholeGround, wholeLog, sooner, pairsOutcome}
+use Rattle.pairs.specs.Call.{wholeGround, wholeLog, pairsOutcome}
 use Rattle.paired_logs.specs.AllRows.{allRows}
-use Rattle.paired_logs.proofs.AllFound.{no-ground, whole-log-is}
 
 -- ---- one store
 
@@ -32,12 +33,14 @@ module _ (slots : ℕ) (least : 2 ≤ slots) (most : slots ≤ 4096) {w : World}
   k = known slots least most r
 
   ground-passes : wholeGround w slots ≡ 0
+  unfolding wholeGround
   ground-passes = ap₂ {C = ℕ} wholeGround (k .world) (sym (k .same-slots)) ∙ no-ground (k .history) (k .good)
 
   -- "as a search over all times and loads gives" it: all lifts of the paper log
   log-is : wholeLog w slots ≡ some (allRows g)
+  unfolding wholeLog
   log-is =
-      ap₂ {C = Option (List (List ℕ))} wholeLog (k .world) (sym (k .same-slots)) ∙ whole-log-is (k .history) (k .good)
+      ap₂ {C = Option (List (List ℕ))} wholeLog (k .world) (sym (k .same-slots)) ∙ all-rows (k .history) (k .good)
       ∙ ap (λ (l : Log). some (allRows l)) (k .log)
 
 -- ---- two stores

@@ -1,13 +1,11 @@
 -- The returns of a call for pairs: a refusal for grounds 1 to 3 of either store, else the answer of both logs. Assumes nothing.
 use mathlib.Core.Path.{_≡_, refl, _∙_}
-use mathlib.Core.Bool.{Bool, true, false, cond}
 use mathlib.Core.List.{List}
 use Prim.Native.Nat.{ℕ}
 use native.Mathlib.Decide.{ℕ-discrete}
-use lib.Dec.{eqb, ltb}
 use lib.ListN.{length}
-use borrow.Author.Tests.{eqb-true, eqb-false, ne-eqb}
-use Rattle.bounds.specs.Grounds.{queryGround}
+use borrow.Author.Tests.{ne-eqb}
+use Rattle.bounds.specs.Grounds.{sooner, queryGround}
 use Rattle.form.specs.declared.Form.the-variants.{New}
 use Rattle.lift.specs.Limits.{timeLimit, loadLeast, loadMost}
 use Rattle.skiplist.specs.Skip.{serialsFrom}
@@ -19,7 +17,7 @@ use Rattle.store.specs.Inner.Pieces.{boundsGround}
 use Rattle.questions.specs.Queries.{logOf, queryOf, searchGround}
 use Rattle.questions.proofs.Asked.{ground-bounds, ground-query}
 use Rattle.pairs.specs.Answers.{PairsAnswer, refusedPairs, pairsAnswer}
-use Rattle.pairs.specs.Call.{wholeGround, wholeLog, sooner, pairsOutcome}
+use Rattle.pairs.specs.Call.{wholeGround, wholeLog, pairsOutcome}
 
 -- grounds 4 to 6 never hold over all times and loads
 all-in : 0 ≡ queryGround 0 timeLimit loadLeast loadMost
@@ -34,17 +32,6 @@ whole-ground nand nor s slots n judged = go (ℕ-discrete n 0)
     go : Dec (n ≡ 0) → n ≡ searchGround (world nand nor s) slots 0 timeLimit loadLeast loadMost
     go (yes z) = z ∙ ground-query nand nor s slots n judged 0 timeLimit loadLeast loadMost 0 z all-in
     go (no f) = ground-bounds nand nor s slots n judged 0 timeLimit loadLeast loadMost f
-
--- of two grounds none holds
-pub sooner-none : (a b : ℕ) → sooner a b ≡ 0 → (a ≡ 0) × (b ≡ 0)
-unfolding sooner
-sooner-none a b e = go (eqb a 0) refl (eqb b 0) refl (ltb b a) refl e
-  where
-    go : (x : Bool) → eqb a 0 ≡ x → (y : Bool) → eqb b 0 ≡ y → (z : Bool) → ltb b a ≡ z → cond x b (cond y a (cond z b a)) ≡ 0 → (a ≡ 0) × (b ≡ 0)
-    go true d y f z g e = (eqb-true _ _ d, e)
-    go false d true f z g e = absurd (eqb-false _ _ d e)
-    go false d false f true g e = absurd (eqb-false _ _ f e)
-    go false d false f false g e = absurd (eqb-false _ _ d e)
 
 module _ (nand1 nor1 : List ℕ) (s1 : State) (slots1 n1 : ℕ) (judged1 : n1 ≡ boundsGround New s1 0 (length nand1) (length nor1) slots1)
     (nand2 nor2 : List ℕ) (s2 : State) (slots2 n2 : ℕ) (judged2 : n2 ≡ boundsGround New s2 0 (length nand2) (length nor2) slots2)

@@ -3,7 +3,8 @@ use mathlib.Core.Bool.{cond}
 use mathlib.Core.Option.{Option}
 use mathlib.Core.List.{List}
 use Prim.Native.Nat.{ℕ}
-use lib.Dec.{eqb, ltb}
+use lib.Dec.{eqb}
+use Rattle.bounds.specs.Grounds.{sooner}
 use Rattle.lift.specs.Limits.{timeLimit, loadLeast, loadMost}
 use Rattle.found.specs.Found.{foundRows}
 use Rattle.store.specs.World.{World, livenessOf}
@@ -18,10 +19,7 @@ unfoldable pub wholeLog : World → ℕ → Option (List (List ℕ))
 wholeLog w slots =
     foundRows (w .nand) (w .nor) (w .state .page) (logOf (w .state) slots) (livenessOf w) (queryOf 0 timeLimit loadLeast loadMost)
 
--- each ground is tried on the first store and then on the second before the next is: the smaller number, 0 where no ground holds
-unfoldable pub sooner : ℕ → ℕ → ℕ
-sooner a b = cond (eqb a 0) b (cond (eqb b 0) a (cond (ltb b a) b a))
-
+-- each ground is tried on the first store and then on the second before the next is
 unfoldable pub pairsOutcome : World → ℕ → World → ℕ → List ℕ → PairsAnswer
 pairsOutcome w1 slots1 w2 slots2 area =
     let n = sooner (wholeGround w1 slots1) (wholeGround w2 slots2) in

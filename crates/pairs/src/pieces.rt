@@ -19,7 +19,6 @@ ghost use Rattle.store.specs.Inner.Pieces.{boundsGround};
 ghost use Rattle.questions.specs.Queries.{logOf, queryOf};
 ghost use Rattle.whole_log.specs.Inner.Held.{Room};
 ghost use Rattle.pairs.specs.Answers.{PairsAnswer, pairsAnswer};
-ghost use Rattle.pairs.specs.Call as Call;
 ghost use Rattle.pairs.specs.Call.{pairsOutcome};
 ghost use Rattle.pairs.specs.Inner.Hands.{InHand, Lends, Known, Writes};
 
@@ -65,22 +64,6 @@ fn everything() -> Query
         k1: 1,
         k2: lift::CODE_MAX,
     }
-}
-
-// The ground that is tried first: each is tried on both stores before the next.
-fn sooner(a: u8, b: u8) -> u8
-    ensures { λ r. ⌜ r ≡ Call.sooner a b ⌝ }
-{
-    if a == 0 {
-        return b;
-    }
-    if b == 0 {
-        return a;
-    }
-    if b < a {
-        return b;
-    }
-    a
 }
 
 fn take_in_hand(
@@ -324,7 +307,7 @@ pub fn pairs_from(
         (pairsOutcome (world (now (nand1 .entry)) (now (nor1 .entry)) s1) slots1 (world (now (nand2 .entry)) (now (nor2 .entry)) s2) slots2
         (now (area .entry)))) ⌝ }
 {
-    let n = sooner(n1, n2);
+    let n = bounds::sooner(n1, n2);
     if n != 0 {
         return refused(n);
     }

@@ -69,7 +69,7 @@ module _ (h : History) (g : Good h) (l : Lift) (gl : GoodLift l) where
   abbrev ls : List Lift
   ls = h .log .current
 
-  plan-is : planOf (image h) (l .load) ≡ planIn ls (l .load)
+  pub plan-is : planOf (image h) (l .load) ≡ planIn ls (l .load)
   unfolding image stateImage
   plan-is = refl
 
@@ -172,7 +172,7 @@ pub record Shed (r : History) (s : History) : Type 0 where
   pub next : s .log .next ≡ r .log .next
 
 -- a drop is forced exactly where S closed serials are held
-drops-is : (r : History) → Good r → dropsFirst (image r .state) (r .log .slots) ≡ leb (r .log .slots) (length (r .log .closed))
+pub drops-is : (r : History) → Good r → dropsFirst (image r .state) (r .log .slots) ≡ leb (r .log .slots) (length (r .log .closed))
 unfolding image stateImage
 drops-is r g =
     let d : openSerial (r .log) - r .log .oldest ≡ length (r .log .closed) = omega arith in

@@ -35,5 +35,6 @@ pub mod SearchStep
 pub mod PagesReached
 pub mod TallyFound
 pub mod TallyHeld
+pub mod AllFound
 pub mod AllCalls
 pub mod Demands

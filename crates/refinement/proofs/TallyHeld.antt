@@ -27,7 +27,7 @@ unfolding joined
 joined-most [] b = omega arith
 joined-most (ls ∷ rest) b = omega (arith, length-append ls (joined rest), b .0 .few, joined-most rest (b .1))
 
-held-most : (h : History) → Good h → length (retained (h .log)) ≤ h .log .slots * 320
+pub held-most : (h : History) → Good h → length (retained (h .log)) ≤ h .log .slots * 320
 held-most h g = go (h .log .current) (g .segment .few) (g .busy)
   where
     go : (ls : List Lift) → length ls ≤ 320 → (0 < length ls → length (h .log .closed) < h .log .slots)

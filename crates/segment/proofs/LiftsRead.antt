@@ -16,7 +16,7 @@ use Rattle.flash.specs.Chip.{pageStart, pageOf, pagesOf}
 use Rattle.lift.specs.Rows.{timeIn, codeIn, recordIn}
 use Rattle.header.specs.declared.Closing.{Closing}
 use Rattle.segment.specs.Pages.{closeProgrammed}
-use Rattle.segment.proofs.ClosedPages.{Shaped, length-closed, page-closed}
+use Rattle.segment.proofs.ClosedPages.{Shaped, length-closed, page-closed, page-other}
 use Rattle.segment.proofs.Tests.{due-lifts}
 use Rattle.segment.proofs.Turns.{image-lifts}
 use Rattle.segment.proofs.ReadBack.{page-in-pages}
@@ -47,6 +47,15 @@ module _ (nor : List ℕ) (c : Closing) (shaped : Shaped nor c) (slots slot : �
       ∙ rw (← due-lifts (c .count) (c .buckets) i h, image-lifts nor c i h)
       (ap (cond (not (eqb (c .count % 16) 0) && eqb i (c .count / 16)) (c .page))
       (ap (λ (k : ℕ). pageOf nand slot k) (sym z) ∙ sym (page-in-pages nand slot 0 20 i (omega arith) (omega arith) h)))
+
+  -- the lift pages of another slot
+  pub lifts-other : (slot' : ℕ) → slot' < slots → (slot' ≡ slot → ⊥) → pagesOf (closeProgrammed nand nor slot c) slot' 0 20 ≡ pagesOf nand slot' 0 20
+  lifts-other slot' h other =
+      let r = length-closed nor c shaped slots slot there nand size in
+      agree-at-parts _ _ 512 20 (omega arith) (length-part _ (pageStart slot' 0) 10240 (omega arith)) (length-part nand (pageStart slot' 0) 10240 (omega arith))
+      (λ i l. page-in-pages (closeProgrammed nand nor slot c) slot' 0 20 i (omega arith) (omega arith) l
+      ∙ page-other nor c shaped slots slot there nand size slot' (0 + i) h (omega arith) other
+      ∙ sym (page-in-pages nand slot' 0 20 i (omega arith) (omega arith) l))
 
   -- no page is part-filled
   pub lifts-whole : c .count % 16 ≡ 0 → pagesOf (closeProgrammed nand nor slot c) slot 0 20 ≡ pagesOf nand slot 0 20

@@ -3,7 +3,7 @@
 use mathlib.Core.Path.{_≡_, refl, ap, subst, _∙_}
 use mathlib.Core.Bool.{Bool, true, false, not, _&&_, _||_, false≢true}
 use mathlib.Core.List.{List}
-use Prim.Native.Nat.{ℕ, _-_}
+use Prim.Native.Nat.{ℕ, _+_, _-_}
 use lib.Dec.{eqb, leb}
 use lib.IntN.{ℤ}
 use Rattle.tree.specs.Plan as Tree
@@ -12,7 +12,7 @@ use Rattle.grow.specs.declared.Plan.{Plan}
 use Rattle.store.specs.declared.State.{State}
 use Rattle.store.specs.declared.fields.Fields.{Fields}
 use Rattle.store.specs.Inner.Fields.{fieldsOf}
-use Rattle.store.specs.World.{World, world, putWorld}
+use Rattle.store.specs.World.{World, world, closeWorld, movedOn, putWorld}
 use Rattle.store.specs.Calls.{Outcome, planOf, roomWorld, appendGround, appendWorld, appendOutcome, dropsFirst}
 use Rattle.store.specs.Inner.Pieces.{Accepted, dropDue, isPlain, carriedOut}
 use Rattle.store.proofs.Outcomes.{refuses, accepts}
@@ -71,3 +71,19 @@ pub plain-made : (nand nor : List ℕ) (s : State) (slots time : ℕ) (load : �
     → carriedOut (world nand nor s) slots time load note p ≡ putWorld (world nand nor s) slots time load note p
 unfolding carriedOut
 plain-made nand nor s slots time load note p is = ap (λ (t : World). putWorld t slots time load note p) (stays nand nor s slots p is)
+
+-- ---- a drop that comes first, behind a close or not
+
+pub sheds-closed : (w : World) (slots : ℕ) (p : Tree.Plan) (f : Fields) (drops : Bool) → fieldsOf (w .state) ≡ f → isNoRoom p ≡ true
+    → drops ≡ leb slots (f .current + 1 - f .oldest) → drops ≡ dropsFirst (roomWorld w slots p .state) slots
+unfolding roomWorld closeWorld movedOn
+sheds-closed w slots p f drops same e g =
+    rw e (subst (λ (t : Fields). drops ≡ leb slots (t .current + 1 - t .oldest)
+    → drops ≡ leb slots (w .state .current + 1 - w .state .oldest)) same (λ h. h) g)
+
+pub sheds-open : (w : World) (slots : ℕ) (p : Tree.Plan) (f : Fields) (drops : Bool) → fieldsOf (w .state) ≡ f → isNoRoom p ≡ false
+    → drops ≡ (eqb (f .count) 0 && leb slots (f .current - f .oldest)) → drops ≡ dropsFirst (roomWorld w slots p .state) slots
+unfolding roomWorld
+sheds-open w slots p f drops same e g =
+    rw e (subst (λ (t : Fields). drops ≡ (eqb (t .count) 0 && leb slots (t .current - t .oldest))
+    → drops ≡ dropsFirst (w .state) slots) same (λ h. h) g)

@@ -31,7 +31,7 @@ ghost use Rattle.store.specs.Inner.Pieces.{Suits, dropDue, entryGround, 
 
 impl State {
     // Grounds 1 to 8.
-    fn entry_ground(self, nand: usize, nor: usize, slots: u64, time: u64, load: i32) -> u8
+    pub fn entry_ground(self, nand: usize, nor: usize, slots: u64, time: u64, load: i32) -> u8
         ensures { λ r. ⌜ r ≡ entryGround self nand nor slots time load ⌝ }
     {
         let n = self.ground(Form::New, 0, nand, nor, slots);
@@ -42,7 +42,7 @@ impl State {
     }
 
     // What the plan goes by.
-    fn fields(self) -> Fields
+    pub fn fields(self) -> Fields
         ensures { λ r. ⌜ r ≡ fieldsOf self ⌝ }
     {
         let loads = self.loads;

@@ -6,7 +6,7 @@ use lift::LOADS_KEPT;
 ghost use mathlib.Core.Path.{_≡_};
 ghost use mathlib.Core.Bool.{true, false};
 ghost use mathlib.Core.List.{[]};
-ghost use Prim.Native.Nat.{_≤_};
+ghost use Prim.Native.Nat.{_-_, _^_, _≤_, _<_};
 ghost use lib.IntN.{ℤ};
 ghost use lib.ListN.{length};
 ghost use Rattle.tree.specs.Rules.{bucketsMost};
@@ -17,8 +17,8 @@ ghost use Rattle.tree.specs.Plan.{noRoom, isDamaged, isNoRoom};
 ghost use Rattle.grow.specs.Inner.Meaning.{meaning, Fitting};
 ghost use Rattle.bounds.specs.Bounds.{loadsOk};
 ghost use Rattle.store.specs.declared.State as Whole;
-ghost use Rattle.store.specs.World.{world};
-ghost use Rattle.store.specs.Calls.{planOf, norClear};
+ghost use Rattle.store.specs.World.{World, world};
+ghost use Rattle.store.specs.Calls.{planOf, norClear, roomWorld, dropsFirst};
 ghost use Rattle.store.specs.Inner.Fields.{fieldsOf, Sized};
 ghost use Rattle.store.specs.Inner.Pieces.{Suits, laterGround, isPlain};
 
@@ -124,5 +124,15 @@ impl Fields {
         let full = append_parts::is_full(p);
         let drops = append_parts::drops_first(self.oldest, self.current, self.count, slots);
         !(full | drops)
+    }
+    // A drop comes first, behind a close if that is due.
+    pub fn sheds(self, slots: u64, p: Plan) -> bool
+        requires { ⌜ (self .oldest ≤ self .current) × (self .current < 2 ^ 32 - 1) ⌝ }
+        ensures { λ r. ⌜ ((w : World) → fieldsOf (w .state) ≡ self → r ≡ dropsFirst (roomWorld w slots (meaning p) .state) slots) ⌝ }
+    {
+        if append_parts::is_full(p) {
+            return append_parts::drops_first(self.oldest, self.current + 1, 0, slots);
+        }
+        append_parts::drops_first(self.oldest, self.current, self.count, slots)
     }
 }

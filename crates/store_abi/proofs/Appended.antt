@@ -3,7 +3,7 @@
 use mathlib.Core.Path.{_≡_, refl, sym, ap, subst, _∙_}
 use mathlib.Core.Bool.{true}
 use mathlib.Core.List.{List}
-use Prim.Native.Nat.{ℕ, _*_, _≤_}
+use Prim.Native.Nat.{ℕ, _*_, _≤_, _<_}
 use native.Mathlib.Omega.{arith}
 use lib.IntN.{ℤ}
 use lib.ListN.{length}
@@ -60,13 +60,19 @@ module _ (area nand nor : List ℕ) (slots time : ℕ) (load : ℤ) (size : leng
           subst (Sized nand nor slots) (sym same) (sized nand nor (stateIn area) slots
           (standing _ _ _ _ (Store.entered (stateIn area) (length nand) (length nor) slots time load none .bounds)))
 
+      -- a close can move on by one serial
+      pub serial-below : f .current < 4294967295
+      serial-below =
+          let l = lift-within _ _ _ _ (Store.entered (stateIn area) (length nand) (length nor) slots time load none .lift) in
+          subst (λ (t : Fields). t .current < 4294967295) (sym same) (omega (arith, l .onward))
+
       -- what is planned by the load as passed
       module _ (m : ℕ) (p : Plan) (z : ℤ) (k : z ≡ load) (suits : Suits (f .buckets) (f .count) p)
           (is : (meaning p ≡ planOf w z) × (m ≡ laterGround w slots z (meaning p))) where
-        plan-is : meaning p ≡ planOf w load
+        pub plan-is : meaning p ≡ planOf w load
         plan-is = is .0 ∙ ap (planOf w) k
 
-        later-is : m ≡ laterGround w slots load (meaning p)
+        pub later-is : m ≡ laterGround w slots load (meaning p)
         later-is = is .1 ∙ ap (λ (l : ℤ). laterGround w slots l (meaning p)) k
 
         pub planned-number : m ≡ appendGround w slots time load

@@ -1,2 +1,5 @@
 pub mod Leaves
 pub mod Appended
+pub mod GoingOn
+pub mod KeptCounts
+pub mod ShedAreas

@@ -20,6 +20,8 @@ use Rattle.service_page.specs.Page.{pageBytes, pageOf}
 use Rattle.loads.specs.Signed.{sideBySide}
 use Rattle.conversion.specs.Outcome.{forwardOutcome, backwardOutcome}
 use Rattle.state_bytes.specs.StateBytes.{stateBytes, stateIn, oldStateBytes, oldStateIn, areaLength}
+use Rattle.counts.specs.CountsBytes.{countsLength, countsBytes, countsIn}
+use Rattle.keeping.specs.Keeping.{Counted, formatKept, appendKept, dropKept}
 use Rattle.kept.specs.Kept.{kept}
 
 -- what a call that writes leaves: its number, the state's area and both chips
@@ -146,3 +148,35 @@ unfoldable pub plateCalled : ℕ → ℤ → List ℕ → Answered
 plateCalled place load answer =
     let p = lookup place load in
     cond (eqb (length answer) 8) (replied (p .number) [] (kept (p .number) (bytes 8 (p .plate)) answer)) (replied 20 [] answer)
+
+-- ---- calls that keep counts (W-210)
+
+-- what such a call leaves: its number, the areas of the state and of the counts, both chips
+pub record LeftKept : Type 0 where
+  pub number : ℕ
+  pub state : List ℕ
+  pub counts : List ℕ
+  pub nand : List ℕ
+  pub nor : List ℕ
+
+abbrev pub leftKept : ℕ → List ℕ → List ℕ → List ℕ → List ℕ → LeftKept
+leftKept number state counts nand nor = record { number = number; state = state; counts = counts; nand = nand; nor = nor }
+
+-- both areas of their lengths, the counts' 88 bytes; then the next state's bytes and the next counts', if the number is 0
+unfoldable pub keptCalled : List ℕ → List ℕ → List ℕ → List ℕ → Counted → LeftKept
+keptCalled area counts nand nor o =
+    inLengths area counts countsLength
+    (leftKept (o .number) (kept (o .number) (newBytes (o .world)) area) (kept (o .number) (countsBytes (o .counts)) counts)
+    (o .world .nand) (o .world .nor))
+    (leftKept 20 area counts nand nor)
+
+unfoldable pub formatKeptCalled : List ℕ → List ℕ → List ℕ → List ℕ → ℕ → LeftKept
+formatKeptCalled area counts nand nor slots = keptCalled area counts nand nor (formatKept New nand nor slots)
+
+unfoldable pub appendKeptCalled : List ℕ → List ℕ → List ℕ → List ℕ → ℕ → ℕ → ℤ → List ℕ → LeftKept
+appendKeptCalled area counts nand nor slots time load note =
+    keptCalled area counts nand nor (appendKept (world nand nor (stateIn area)) slots time load note (countsIn counts))
+
+unfoldable pub dropKeptCalled : List ℕ → List ℕ → List ℕ → List ℕ → ℕ → LeftKept
+dropKeptCalled area counts nand nor slots =
+    keptCalled area counts nand nor (dropKept (world nand nor (stateIn area)) slots (countsIn counts))

@@ -1,6 +1,7 @@
 // The calls for C and Rust: byte areas and numbers only. The state is a lent area of 783 bytes, 775 in form 0, the other answers are an
 // area of 8-byte numbers, a service page its text. Each call returns its number; 20 where one of these areas has another length, before
 // everything else.
+pub mod counted;
 pub mod lists;
 
 use grow::Plan;
@@ -25,7 +26,7 @@ ghost use Rattle.store.specs.Inner.Fields.{fieldsOf};
 ghost use Rattle.store.specs.Inner.Pieces.{entryGround, isPlain};
 ghost use Rattle.store.specs.World.{world};
 ghost use Rattle.tally.specs.Answers.{TallyAnswer};
-ghost use Rattle.store_abi.specs.Inner.Appending.{Appending};
+ghost use Rattle.store_abi.specs.Inner.Appending.{Appending, GoesOn};
 ghost use Rattle.store_abi.specs.Areas.{left, replied};
 ghost use Rattle.store_abi.specs.Areas.{formatCalled, appendCalled, closeCalled, dropCalled};
 ghost use Rattle.store_abi.specs.Areas.{forwardCalled, backwardCalled};
@@ -33,6 +34,8 @@ ghost use Rattle.store_abi.specs.Areas.{searchCalled, tallyCalled, pageC
 
 // One of the areas of state and answers has another length.
 const AREA_LENGTH: u8 = 20;
+// An append that was not to drop would have to.
+const STOPPED: u8 = 255;
 // A tally's counts.
 const COUNTS_BYTES: usize = 8 * PLATES;
 
@@ -116,7 +119,8 @@ fn put(
     put_by_value(state, nand, nor, slots, time, load, note, p);
 }
 
-// An append past grounds 1 to 8.
+// An append past grounds 1 to 8. Where it may not drop it stops before a forced drop, with nothing changed. It takes no structs: it has
+// several callers.
 fn append_on(
     state: &mut [u8],
     nand: &mut [u8],
@@ -125,19 +129,24 @@ fn append_on(
     time: u64,
     load: i32,
     note: [u8; NOTE_BYTES],
+    may_drop: bool,
 ) -> u8
     requires { ⌜ (length (now state) ≡ areaLength New)
         × (entryGround (stateIn (now state)) (length (now nand)) (length (now nor)) slots time load ≡ 0) ⌝ }
-    ensures { λ r. ⌜ left r (now (state .exit)) (now (nand .exit)) (now (nor .exit))
-        ≡ appendCalled (now (state .entry)) (now (nand .entry)) (now (nor .entry)) slots time load note ⌝ }
+    ensures { λ r. ⌜ GoesOn «may_drop» (now (state .entry)) (now (nand .entry)) (now (nor .entry)) slots time load note
+        (left r (now (state .exit)) (now (nand .exit)) (now (nor .exit))) ⌝ }
 {
     let f = area_reads::fields_at(state);
     let a = f.planned(nand, nor, slots, load);
+    let p = a.plan;
+    let stop = !may_drop & f.sheds(slots, p);
+    if stop {
+        return STOPPED;
+    }
     let m = a.number;
     if m != 0 {
         return m;
     }
-    let p = a.plan;
     put(state, nand, nor, slots, f, time, load, note, p);
     0
 }
@@ -163,7 +172,7 @@ pub extern "C" fn store_append(
         return g;
     }
     let n = *note;
-    append_on(state, nand, nor, slots, time, load, n)
+    append_on(state, nand, nor, slots, time, load, n, true)
 }
 
 #[no_mangle]

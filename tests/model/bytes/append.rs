@@ -1,6 +1,7 @@
 //! Append and drop after grounds 1 to 9: closing by force, the slot that must go, the lift itself.
 use super::bloom::set_bits;
 use super::close::close_segment;
+use super::counts::uncount_segment;
 use super::header::Header;
 use super::insert::{find_place, write_place, Place};
 use super::state::step;
@@ -23,6 +24,9 @@ pub fn append_lift(work: &mut Work, time: u64, load: i32, note: &[u8; 20]) -> Ou
     write_place(work, &place, load)?;
     fill_buffers(work, time, load, note)?;
     note_in_state(work, time, load);
+    if let Some(counts) = &mut work.counts {
+        counts.add(load);
+    }
     Ok(())
 }
 
@@ -36,10 +40,12 @@ fn place_in_open_segment(work: &Work, load: i32) -> Outcome<Option<Place>> {
     Ok(if needs_bucket_36 { None } else { Some(place) })
 }
 
-/// The first append to a serial: the segment S before it goes, if it is still retained.
+/// The first append to a serial: the segment S before it goes, if it is still retained. "a forced drop before the new lift"
+/// (W-210)
 fn enter_serial(work: &mut Work, time: u64) -> Outcome<()> {
     let open = work.state.open;
     if u64::from(work.state.oldest) + work.slots <= u64::from(open) {
+        uncount_segment(work, slot_of(open, work.slots))?;
         work.erase_slot(slot_of(open, work.slots));
         work.state.oldest = open - work.slots as u32 + 1;
         renew_oldest_live(work)?;
@@ -104,7 +110,9 @@ fn note_in_state(work: &mut Work, time: u64, load: i32) {
 
 /// Erases the oldest closed segment.
 pub fn drop_oldest_closed(work: &mut Work) -> Outcome<()> {
-    work.erase_slot(slot_of(work.state.oldest, work.slots));
+    let slot = slot_of(work.state.oldest, work.slots);
+    uncount_segment(work, slot)?;
+    work.erase_slot(slot);
     work.state.oldest += 1;
     renew_oldest_live(work)
 }

@@ -2,13 +2,15 @@
 use super::append::{append_lift, drop_oldest_closed};
 use super::carry::carry_over;
 use super::close::close_segment;
+use super::counts::kept_counts;
 use super::pairs::pair_up;
 use super::search::{find, load_of, Found, PagesRead};
 use super::state::State;
 use super::tolerant::search_with_tolerance;
 use super::work::{put_state, Work};
+use crate::counts::Counts;
 use crate::limits::*;
-use crate::paper::Record;
+use crate::paper::{Lift, Record};
 use crate::plate::plate_of;
 use crate::service_page;
 use crate::stacks::{generated, plate_at};
@@ -18,17 +20,19 @@ use script::form::Form;
 
 const NOR_BYTES: usize = 6_144;
 
-/// Answers any call on any areas as document 01 says, in form 1 as W-202, W-206 and W-207 amend it, and the calls of W-203,
-/// W-208 and W-209.
+/// Answers any call on any areas as document 01 says, in form 1 as W-202, W-206, W-207 and W-210 amend it, and the calls of
+/// W-203, W-208 and W-209.
 pub struct Expectation;
 
 impl Store for Expectation {
     fn answer(&mut self, form: Form, call: &Call, areas: &mut Areas, outputs: &mut Outputs) -> u8 {
         let result = match *call {
             Call::Format { slots } => format(form, areas, slots),
-            Call::Append { slots, time, load, ref note } => append(form, areas, slots, time, load, note),
+            Call::Append { keeps, slots, time, load, ref note } => {
+                append(form, areas, keeps, slots, &Lift { time, load, note: *note })
+            }
             Call::Close { slots } => close(form, areas, slots),
-            Call::Drop { slots } => drop_oldest(form, areas, slots),
+            Call::Drop { keeps, slots } => drop_oldest(form, areas, keeps, slots),
             Call::Search { slots, ref window, .. } => search(form, areas, slots, window, outputs),
             Call::Tally { slots, t1, t2 } => tally(form, areas, slots, t1, t2, outputs),
             Call::Page { slots, t1, t2 } => page(form, areas, slots, t1, t2, outputs),
@@ -85,17 +89,21 @@ fn format(form: Form, areas: &mut Areas, slots: u64) -> Outcome<()> {
     areas.nand.fill(255);
     areas.nor.fill(255);
     put_state(areas, &State::formatted(form));
+    if form == Form::New {
+        areas.counts = Counts::ZERO.to_bytes();
+    }
     Ok(())
 }
 
-fn append(form: Form, areas: &mut Areas, slots: u64, time: u64, load: i32, note: &[u8; 20]) -> Outcome<()> {
+fn append(form: Form, areas: &mut Areas, keeps: bool, slots: u64, lift: &Lift) -> Outcome<()> {
     let state = checked_state(form, areas, slots)?;
-    refuse_if(time_past_limit(time), TIME_LIMIT)?;
-    refuse_if(load_past_limit(load), LOAD_LIMIT)?;
-    refuse_if(time < state.next, TIME_BELOW_NEXT)?;
+    let counts = kept_counts(keeps, areas)?;
+    refuse_if(time_past_limit(lift.time), TIME_LIMIT)?;
+    refuse_if(load_past_limit(lift.load), LOAD_LIMIT)?;
+    refuse_if(lift.time < state.next, TIME_BELOW_NEXT)?;
     refuse_if(state.open >= LAST_SERIAL - 1, LAST_SERIALS)?;
-    let mut work = Work::new(areas, slots, state);
-    let result = append_lift(&mut work, time, load, note);
+    let mut work = Work::keeping(counts, areas, slots, state);
+    let result = append_lift(&mut work, lift.time, lift.load, &lift.note);
     work.end(result)
 }
 
@@ -107,10 +115,11 @@ fn close(form: Form, areas: &mut Areas, slots: u64) -> Outcome<()> {
     work.end(Ok(()))
 }
 
-fn drop_oldest(form: Form, areas: &mut Areas, slots: u64) -> Outcome<()> {
+fn drop_oldest(form: Form, areas: &mut Areas, keeps: bool, slots: u64) -> Outcome<()> {
     let state = checked_state(form, areas, slots)?;
+    let counts = kept_counts(keeps, areas)?;
     refuse_if(state.oldest == state.open, NOTHING_TO_DO)?;
-    let mut work = Work::new(areas, slots, state);
+    let mut work = Work::keeping(counts, areas, slots, state);
     let result = drop_oldest_closed(&mut work);
     work.end(result)
 }

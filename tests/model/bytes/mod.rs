@@ -1,11 +1,12 @@
 //! The expectation of every byte, over whatever chips and states are handed over: document 01 in its own form 0 and in
-//! form 1 of W-202, W-203's conversions, W-208's pairs and W-209's tolerant search.
+//! form 1 of W-202, W-203's conversions, W-208's pairs, W-209's tolerant search and W-210's kept counts.
 mod append;
 mod bloom;
 mod bucket;
 mod calls;
 mod carry;
 mod close;
+mod counts;
 mod header;
 mod insert;
 mod numbers;

@@ -139,7 +139,7 @@ impl Reader<'_> {
     }
 }
 
-fn record_in(page: &[u8], position: usize) -> Record {
+pub fn record_in(page: &[u8], position: usize) -> Record {
     page[position % 16 * ROW_BYTES..][..ROW_BYTES].try_into().unwrap()
 }
 

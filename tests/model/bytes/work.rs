@@ -1,6 +1,7 @@
 //! The chips during a call: what is written can be taken back if a ground turns up later.
 use super::numbers::all_255;
 use super::state::State;
+use crate::counts::Counts;
 use crate::limits::{Outcome, DAMAGE, PAGE_NOT_ERASED};
 use script::areas::{Areas, PAGE_BYTES, SLOT_BYTES};
 use script::command::Part;
@@ -31,6 +32,8 @@ pub fn put_state(areas: &mut Areas, state: &State) {
 pub struct Work<'a> {
     pub slots: u64,
     pub state: State,
+    /// None if the call keeps no counts.
+    pub counts: Option<Counts>,
     pub nor: Vec<u8>,
     areas: &'a mut Areas,
     /// Stretches of NAND as they were, in order of writing.
@@ -40,8 +43,12 @@ pub struct Work<'a> {
 
 impl<'a> Work<'a> {
     pub fn new(areas: &'a mut Areas, slots: u64, state: State) -> Work<'a> {
+        Work::keeping(None, areas, slots, state)
+    }
+
+    pub fn keeping(counts: Option<Counts>, areas: &'a mut Areas, slots: u64, state: State) -> Work<'a> {
         let nor = areas.nor.clone();
-        Work { slots, state, nor, areas, replaced: Vec::new(), met_unerased_page: false }
+        Work { slots, state, counts, nor, areas, replaced: Vec::new(), met_unerased_page: false }
     }
 
     pub fn page(&self, slot: usize, page: usize) -> &[u8] {
@@ -90,6 +97,9 @@ impl<'a> Work<'a> {
         if result.is_ok() {
             self.areas.nor = self.nor;
             put_state(self.areas, &self.state);
+            if let Some(counts) = &self.counts {
+                self.areas.counts = counts.to_bytes();
+            }
         } else {
             while let Some((offset, bytes)) = self.replaced.pop() {
                 self.areas.nand[offset..offset + bytes.len()].copy_from_slice(&bytes);

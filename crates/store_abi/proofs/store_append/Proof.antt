@@ -9,6 +9,7 @@ use Rattle.state_bytes.specs.StateBytes.{stateIn}
 use Rattle.store_abi.specs.Areas.{appendCalled}
 use Rattle.store_abi.proofs.Leaves.{wrong-length}
 use Rattle.store_abi.proofs.Appended.{early-left}
+use Rattle.store_abi.proofs.GoingOn.{goes-plain}
 use native.Mathlib.Omega.{arith}
 use borrow.Author.Needs.{needs}
 use Rattle.store_abi.proofs.store_append.Statement.{statement}
@@ -65,9 +66,8 @@ returns-3 : tie.Need-returns-3
 returns-3 c =
     let d = c .before .before .before .before .before .before .before .before .before .before .before .before .before .before .before .before .before .before in
     let a = d .args in
-    c .before .before .before .before .before .before .append-on .ensures
-    ∙ ap (λ (z : ℤ). appendCalled (a .state .now) (a .nand .now) (a .nor .now) (a .slots) (a .time) z (a .note .now))
-    (toZ-ofZ w32 (a .load) (d .fits .load))
+    goes-plain (a .state .now) (a .nand .now) (a .nor .now) (a .slots) (a .time) _ (a .load) (toZ-ofZ w32 (a .load) (d .fits .load)) (a .note .now) _
+    (c .before .before .before .before .before .before .append-on .ensures)
 
 pub store-append-spec : {M : Type 1} → statement M
 store-append-spec =

@@ -4,10 +4,11 @@ use mathlib.Core.List.{List}
 use Prim.Native.Nat.{ℕ}
 use native.Mathlib.Omega.{arith}
 use Rattle.lift.specs.Limits.{stored}
+use Rattle.bounds.proofs.TriedFirst.{sooner-none}
 use Rattle.pairs.specs.Answers.{PairsAnswer}
 use Rattle.pairs.specs.declared.pieces.Paired.{Paired}
 use Rattle.pairs.proofs.Paired.{room-made}
-use Rattle.pairs.proofs.Outcomes.{sooner-none, pairs-refused, pairs-done}
+use Rattle.pairs.proofs.Outcomes.{pairs-refused, pairs-done}
 use native.Mathlib.Omega.{arith}
 use borrow.Author.Needs.{needs}
 use Rattle.pairs.proofs.pieces.pairs_from.Statement.{statement}

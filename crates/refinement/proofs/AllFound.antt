@@ -1,22 +1,27 @@
 -- A search over all times and loads of a history's world is not refused and finds every retained lift: an accepted lift is within the
--- limits. Assumes nothing.
+-- limits. So does a tally over all times. Assumes nothing.
 use mathlib.Core.Path.{_≡_, refl, ap, ap₂, _∙_}
 use mathlib.Core.Bool.{Bool, true, false, cond, _&&_}
 use mathlib.Core.Option.{some}
 use mathlib.Core.List.{List, [], _∷_, _++_, map}
 use Prim.Native.Nat.{ℕ}
 use native.Mathlib.Omega.{arith}
-use lib.Dec.{leb, leb·zero}
+use lib.Dec.{eqb, leb, leb·zero}
 use borrow.Author.Tests.{eq-eqb, le-leb}
 use Rattle.codec.proofs.Truth.{and-both}
 use Rattle.lift.specs.Limits.{timeLimit, loadLeast, loadMost, loadOk}
 use Rattle.bounds.specs.Grounds.{queryGround}
-use Rattle.paper_log.specs.Log.{Lift, wanted, among, joined, retained, found, rowOf}
+use Rattle.plate.specs.Plate.{countsOf, noCounts}
+use Rattle.tally.specs.Answers.{TallyAnswer, tallyAnswer}
+use Rattle.found.specs.Found.{foundRows}
+use Rattle.store.specs.World.{livenessOf}
+use Rattle.questions.specs.Queries.{logOf, queryOf, searchGround, tallyOutcome}
+use Rattle.paper_log.specs.Log.{Lift, codes, wanted, among, joined, retained, found, rowOf}
 use Rattle.refinement.specs.Inner.Image.{History, image}
 use Rattle.refinement.proofs.Good.{GoodLift, GoodLifts, AllBuilt, Good}
 use Rattle.refinement.proofs.Wanted.{among-append}
 use Rattle.refinement.proofs.SearchStep.{windowGround, ground-is, found-if}
-use Rattle.pairs.specs.Call.{wholeGround, wholeLog}
+use Rattle.refinement.proofs.TallyFound.{row-codes, good-retained}
 
 -- ---- every lift is wanted
 
@@ -59,11 +64,17 @@ module _ (h : History) (g : Good h) where
   unfolding queryGround
   passes = rw (eq-eqb (h .log .slots) (h .log .slots) refl)
 
-  pub no-ground : wholeGround (image h) (h .log .slots) ≡ 0
-  unfolding wholeGround
+  pub no-ground : searchGround (image h) (h .log .slots) 0 timeLimit loadLeast loadMost ≡ 0
   no-ground = ground-is h g (h .log .slots) 0 timeLimit loadLeast loadMost ∙ passes
 
-  pub whole-log-is : wholeLog (image h) (h .log .slots) ≡ some (map rowOf (retained (h .log)))
-  unfolding wholeLog
-  whole-log-is =
-      found-if h g (h .log .slots) 0 timeLimit loadLeast loadMost passes ∙ ap (λ (ls : List Lift). some (map rowOf ls)) all-found
+  pub all-rows : foundRows (image h .nand) (image h .nor) (image h .state .page) (logOf (image h .state) (h .log .slots)) (livenessOf (image h))
+      (queryOf 0 timeLimit loadLeast loadMost)
+      ≡ some (map rowOf (retained (h .log)))
+  all-rows = found-if h g (h .log .slots) 0 timeLimit loadLeast loadMost passes ∙ ap (λ (ls : List Lift). some (map rowOf ls)) all-found
+
+  -- a tally of all that it holds
+  pub whole-tally : tallyOutcome (image h) (h .log .slots) 0 timeLimit ≡ record { number = 0; counts = countsOf (codes (retained (h .log))) }
+  unfolding tallyOutcome tallyAnswer
+  whole-tally =
+      ap₂ {C = TallyAnswer} (λ n rows. cond (eqb n 0) (tallyAnswer rows) (record { number = n; counts = noCounts })) no-ground all-rows
+      ∙ ap {B = TallyAnswer} (λ (cs : List ℕ). record { number = 0; counts = countsOf cs }) (row-codes (retained (h .log)) (good-retained h g))

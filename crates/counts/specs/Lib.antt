@@ -1,0 +1,3 @@
+pub mod Counts
+pub mod CountsBytes
+pub mod Inner

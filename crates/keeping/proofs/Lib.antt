@@ -1,0 +1,5 @@
+pub mod Numbers
+pub mod Shedding
+pub mod Appends
+pub mod Drops
+pub mod Examples

@@ -1,0 +1,4 @@
+pub mod RetainedLifts
+pub mod Dropping
+pub mod EachKept
+pub mod KeepsUp
