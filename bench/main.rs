@@ -3,6 +3,9 @@ mod agree;
 mod agree_kept;
 mod carried;
 mod clock;
+mod csv;
+mod csv_by_hand;
+mod csv_calls;
 mod field;
 mod filled;
 mod gym;
@@ -45,6 +48,7 @@ use service_page::ServicePage;
 const SIZES: [u64; 3] = [2, 64, 4_096];
 const PAGED_SIZE: u64 = 64;
 const CONVERTED_SIZES: [u64; 2] = [64, 4_096];
+const CSV_SIZES: [u64; 2] = [64, 4_096];
 
 fn measured(slots: u64) -> (Field, Vec<Line>) {
     let mut field = Field::filled(slots);
@@ -82,6 +86,10 @@ fn depths() -> Vec<(&'static str, usize)> {
     let mut keeping = field.proved.clone();
     let mut kept = keeping.counts_due();
     let append_kept = stack::depth(|| assert!(lifts.iter().all(|lift| keeping.put_kept(&mut kept, lift) == 0)));
+    let text = csv_by_hand::text_of(&lifts);
+    let mut text_area = vec![0; csv_by_hand::room_for(field.retained())];
+    let (mut importing, mut import_keeping) = (field.proved.clone(), field.proved.clone());
+    let mut import_kept = import_keeping.counts_due();
     let (mut found, mut plate) = ([0; size_of::<FoundArea>()], [0; 8]);
     let (mut counts, mut page) = ([0; size_of::<Counts>()], [0; size_of::<ServicePage>()]);
     let old: &Proved = &field.proved;
@@ -97,6 +105,12 @@ fn depths() -> Vec<(&'static str, usize)> {
         ("append keeping counts, closing and dropping among 700", append_kept),
         ("drop keeping counts", stack::depth(|| assert_eq!(keeping.drop_kept(&mut kept), 0))),
         ("format keeping counts", stack::depth(|| assert_eq!(keeping.format_kept(&mut kept), 0))),
+        ("import, closing and dropping among 700", stack::depth(|| assert_eq!(importing.import(&text), (0, 0)))),
+        (
+            "import keeping counts, closing and dropping among 700",
+            stack::depth(|| assert_eq!(import_keeping.import_kept(&mut import_kept, &text), (0, 0))),
+        ),
+        ("export", stack::depth(|| assert_eq!(old.export(&window, &mut text_area).0, 0))),
         ("search", stack::depth(|| assert_eq!(old.find(&window, &mut rows, &mut found), 0))),
         ("tally", stack::depth(|| assert_eq!(old.by_plate(window.t1, window.t2, &mut counts), 0))),
         ("page", stack::depth(|| assert_eq!(old.page(window.t1, window.t2, &mut page), 0))),
@@ -119,10 +133,9 @@ fn main() {
         ["pairs"] => pairs::table(&SIZES.map(pairs::measured)),
         ["tolerant"] => tolerant::table(&SIZES.map(tolerant::measured)),
         ["kept"] => kept::table(&SIZES.map(kept::measured)),
+        ["csv"] => csv::table(&CSV_SIZES.map(csv::measured)),
         _ => {
-            eprintln!(
-                "bench report SYMBOLS | bench pages | bench searches | bench pairs | bench tolerant | bench kept"
-            );
+            eprintln!("bench report SYMBOLS | bench pages | searches | pairs | tolerant | kept | csv");
             std::process::exit(2);
         }
     }
@@ -162,6 +175,15 @@ fn report(symbols: &str) {
     println!("\nAppends and drops that keep counts, by the store and by (a), in turns with the plain calls. Counts and chips");
     println!("are the same for all, and the counts are those of a tally of the whole log.\n");
     kept::table(&kept);
+    let csv = CSV_SIZES.map(csv::measured);
+    println!(
+        "\nExports and imports, in the same manner but in nanoseconds a lift: an import in turns with the appends that"
+    );
+    println!(
+        "it makes, one by one on a twin; an export in turns with a search whose rows are written as text by hand."
+    );
+    println!("Stores, counts and texts are the same for both.\n");
+    csv::table(&csv);
     println!();
     report::front_screen(&lines);
     let mut depths = depths();
@@ -175,7 +197,11 @@ fn report(symbols: &str) {
     report::stacks(&depths);
     report::plans(&large.sqlite_plans());
     println!();
-    let ratios = report::Ratios { large_to_small: append_ratio(&mut small, &mut large), kept_to_plain: times_plain };
+    let ratios = report::Ratios {
+        large_to_small: append_ratio(&mut small, &mut large),
+        kept_to_plain: times_plain,
+        csv: csv.iter().flatten().map(|line| line.times()).collect(),
+    };
     report::targets(&lines, &ratios, &depths, symbols);
     println!("\n## Where others are faster\n");
     report::faster(&lines);

@@ -22,6 +22,13 @@ pub const TOLERANT_WHOLE_LOG: &str = "tolerant, whole log";
 pub const APPEND_KEPT: &str = "append keeping counts";
 pub const DROP_KEPT: &str = "drop keeping counts";
 
+pub const IMPORT: &str = "import";
+pub const IMPORT_KEPT: &str = "import keeping counts";
+pub const EXPORT_DAY: &str = "export, any day";
+pub const EXPORT_ALL: &str = "export, whole log";
+/// So many times the same without them an export and an import may take.
+pub const CSV_MOST: f64 = 1.3;
+
 /// The stacks of these two are measured apart, at this S.
 pub const PAIRS_STACK: &str = "pairs, S = 4096";
 pub const TOLERANT_STACK: &str = "tolerant, S = 4096";
@@ -134,12 +141,14 @@ pub fn front_screen(lines: &[Line]) {
     println!("log takes the store {}.", tallies.join(", "));
 }
 
-/// Ratios of the store's own appends, each measured in turns.
+/// Ratios of the store's own calls, each measured in turns.
 pub struct Ratios {
     /// At S = 4,096 to those at S = 2.
     pub large_to_small: f64,
     /// Those that keep counts to plain ones, at each S.
     pub kept_to_plain: [f64; SIZES.len()],
+    /// Imports to appends and exports to searches with text by hand, each in its words.
+    pub csv: Vec<(String, f64)>,
 }
 
 /// The outside functions that an archive without a heap may call.
@@ -183,6 +192,9 @@ fn time_targets(lines: &[Line], ratios: &Ratios) {
     for (slots, ratio) in SIZES.into_iter().zip(ratios.kept_to_plain) {
         let what = format!("{APPEND_KEPT}, S = {slots}: at most 1.1 times the store's plain append, measured in turns");
         target(&what, format!("{ratio:.2} times"), ratio <= 1.1);
+    }
+    for (what, times) in &ratios.csv {
+        target(what, format!("{times:.2} times"), *times <= CSV_MOST);
     }
     for call in [RECENT_DAY, ANY_DAY] {
         for (other, name) in [(2, "(b)"), (3, "(c)")] {

@@ -69,6 +69,20 @@ mod c {
             slots: u64, t1: u64, t2: u64, k1: i32, k2: i32, d: u64, certain: *mut u8, certain_len: usize,
             possible: *mut u8, possible_len: usize, answer: *mut u8, answer_len: usize,
         ) -> u8;
+        pub fn store_export(
+            state: *const u8, state_len: usize, nand: *const u8, nand_len: usize, nor: *const u8, nor_len: usize,
+            slots: u64, t1: u64, t2: u64, k1: i32, k2: i32, text: *mut u8, text_len: usize, answer: *mut u8,
+            answer_len: usize,
+        ) -> u8;
+        pub fn store_import(
+            state: *mut u8, state_len: usize, nand: *mut u8, nand_len: usize, nor: *mut u8, nor_len: usize, slots: u64,
+            text: *const u8, text_len: usize, answer: *mut u8, answer_len: usize,
+        ) -> u8;
+        pub fn store_import_kept(
+            state: *mut u8, state_len: usize, counts: *mut u8, counts_len: usize, nand: *mut u8, nand_len: usize,
+            nor: *mut u8, nor_len: usize, slots: u64, text: *const u8, text_len: usize, answer: *mut u8,
+            answer_len: usize,
+        ) -> u8;
     }
 }
 
@@ -326,6 +340,17 @@ pub fn enter(call: &Call, store: LentStore, counts: &mut [u8], rows: &mut [u8], 
                 c::store_page(st, st_len, na, na_len, no, no_len, slots, t1, t2, an, an_len)
             }
             Call::Plate { place, load } => c::store_plate(place, load, an, an_len),
+            Call::Export { slots, window: Window { t1, t2, k1, k2 }, .. } => {
+                let export = c::store_export;
+                export(st, st_len, na, na_len, no, no_len, slots, t1, t2, k1, k2, ro, ro_len, an, an_len)
+            }
+            Call::Import { keeps: false, slots, .. } => {
+                c::store_import(st, st_len, na, na_len, no, no_len, slots, ro, ro_len, an, an_len)
+            }
+            Call::Import { keeps: true, slots, .. } => {
+                let import = c::store_import_kept;
+                import(st, st_len, co, co_len, na, na_len, no, no_len, slots, ro, ro_len, an, an_len)
+            }
         }
     }
 }

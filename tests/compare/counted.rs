@@ -17,13 +17,14 @@ pub struct Balance {
 }
 
 impl Balance {
-    /// After an accepted call.
+    /// After an accepted call or an import.
     pub fn after(mut self, call: &Call, said: &Said) -> Option<Balance> {
         match call {
             Call::Append { keeps: false, .. } | Call::Drop { keeps: false, .. } => return None,
-            Call::Append { .. } => self.appended += 1,
+            Call::Import { keeps: false, .. } if said.lifts_taken > 0 => return None,
             _ => {}
         }
+        self.appended += said.lifts_taken;
         self.dropped += said.lifts_gone;
         Some(self)
     }
@@ -52,6 +53,7 @@ pub struct Counted {
     drops: u64,
     by_log: u64,
     by_tally: u64,
+    by_tally_after_import: u64,
     /// By call, number, and number of the plain call.
     in_place: BTreeMap<(&'static str, u8, u8), u64>,
 }
@@ -76,17 +78,20 @@ impl Counted {
     }
 
     pub fn count_said(&mut self, call: &Call, said: &Said) {
-        let goes = u64::from(said.gone.is_some());
+        let goes = said.gone.len() as u64;
         match call {
-            Call::Append { keeps: true, .. } => self.forced_drops += goes,
+            Call::Append { keeps: true, .. } | Call::Import { keeps: true, .. } => self.forced_drops += goes,
             Call::Drop { keeps: true, .. } => self.drops += goes,
             _ => {}
         }
     }
 
     /// Holds the counts to the log; "After any accepted calls from a format, each append and drop keeping counts, they equal
-    /// a tally of the whole store, and their sum is the lifts appended less those dropped."
-    pub fn check(&mut self, reached: &Reached, areas: &mut Areas, by: &mut impl Store) -> Result<(), String> {
+    /// a tally of the whole store, and their sum is the lifts appended less those dropped." So they do after every import that
+    /// keeps them, accepted or not.
+    pub fn check(
+        &mut self, after_import: bool, reached: &Reached, areas: &mut Areas, by: &mut impl Store,
+    ) -> Result<(), String> {
         let log = &reached.log;
         if log.form() != Form::New {
             return Ok(());
@@ -96,8 +101,10 @@ impl Counted {
         if counts != log.counts {
             return Err(format!("counts {:?}, in the paper log {:?}", counts.values(), log.counts.values()));
         }
-        let Some(balance) = reached.balance.as_ref().filter(|balance| balance.is_read_now()) else { return Ok(()) };
+        let read_now = |balance: &&Balance| after_import || balance.is_read_now();
+        let Some(balance) = reached.balance.as_ref().filter(read_now) else { return Ok(()) };
         self.by_tally += 1;
+        self.by_tally_after_import += u64::from(after_import);
         if counts.sum() != balance.retained() {
             return Err(format!("the counts add up to {}, not to {}", counts.sum(), balance.retained()));
         }
@@ -123,8 +130,9 @@ impl Counted {
 
     pub fn print(&self) {
         println!(
-            "drops that keep counts {}, forced ones {}; counts held to the paper log {}, to the tally of the whole store {}",
-            self.drops, self.forced_drops, self.by_log, self.by_tally
+            "drops that keep counts {}, forced ones {}; counts held to the paper log {}, to the tally of the whole store {}, \
+             of these after an import {}",
+            self.drops, self.forced_drops, self.by_log, self.by_tally, self.by_tally_after_import
         );
         let told = |((name, number, plain), times): (&(&str, u8, u8), &u64)| {
             format!("{name} {number} in place of {plain} {times}")

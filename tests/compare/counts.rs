@@ -49,7 +49,7 @@ pub fn rounds(trial: &mut Trial) -> Step {
 }
 
 /// A store that goes on for more segments than it has slots, mostly with calls alone that keep counts.
-fn steady(trial: &mut Trial) -> Result<Habits, Difference> {
+pub fn steady(trial: &mut Trial) -> Result<Habits, Difference> {
     let slots = trial.random.pick(&[2, 2, 3, 4, 5]);
     trial.lend_chips(slots)?;
     trial.call(Call::Format { slots })?;
@@ -98,7 +98,7 @@ fn stop_before_a_drop(trial: &mut Trial, habits: &mut Habits) -> Step {
     }
 }
 
-fn change(trial: &mut Trial, habits: &Habits) -> Step {
+pub fn change(trial: &mut Trial, habits: &Habits) -> Step {
     let slots = habits.slots;
     let slot = oldest_slot(trial, slots);
     match trial.random.below(16) {
@@ -139,7 +139,7 @@ fn sum_at_its_limit(trial: &mut Trial) -> Step {
     set_sum(trial, sum)
 }
 
-fn set_sum(trial: &mut Trial, sum: u64) -> Step {
+pub fn set_sum(trial: &mut Trial, sum: u64) -> Step {
     let plate = any_plate(trial);
     let others = counts(trial).iter().sum::<u64>() - counts(trial)[plate];
     set_count(trial, plate, sum.saturating_sub(others))

@@ -48,13 +48,15 @@ fn any_call(trial: &mut Trial, slots: u64) -> Step {
     let load = random.load(-100, 100);
     let keeps = random.once_in(2);
     let window = Window { t1: 0, t2: time, k1: load.min(0), k2: load.max(0) };
-    let call = match random.below(8) {
+    let call = match random.below(10) {
         0 | 1 => Call::Format { slots },
         2 => Call::Append { keeps, slots, time, load, note: random.note() },
         3 => Call::Close { slots },
         4 => Call::Drop { keeps, slots },
         5 => Call::Search { slots, window, area_bytes: random.index(100) },
         6 => Call::Page { slots, t1: 0, t2: time },
+        7 => Call::Export { slots, window, area_bytes: random.index(100) },
+        8 => Call::Import { keeps, slots, text: format!("time,load,member\r\n{time},{load},1").into_bytes() },
         _ => Call::Tally { slots, t1: 0, t2: time },
     };
     trial.call(call)

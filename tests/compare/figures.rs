@@ -1,5 +1,6 @@
 //! What was compared, counted, and which ground each call can meet.
 use crate::counted::Counted;
+use crate::imported::Imported;
 use crate::pages_read::PagesRead;
 use crate::paired::Paired;
 use crate::stacks::ListFigures;
@@ -36,10 +37,13 @@ pub struct Turns {
 
 impl Turns {
     pub fn count(&mut self, call: &Call, said: &Said) {
-        self.closes_at_320_lifts += u64::from(said.closed == Some(Closed::At320Lifts));
-        self.closes_for_bucket_36 += u64::from(said.closed == Some(Closed::ForBucket36));
-        self.forced_drops += u64::from(matches!(call, Call::Append { .. }) && said.gone.is_some());
-        self.repeated_times += u64::from(said.repeats_time);
+        let closes = |wanted: Closed| said.closed.iter().filter(|closed| **closed == wanted).count() as u64;
+        self.closes_at_320_lifts += closes(Closed::At320Lifts);
+        self.closes_for_bucket_36 += closes(Closed::ForBucket36);
+        if let Call::Append { .. } | Call::Import { .. } = call {
+            self.forced_drops += said.gone.len() as u64;
+        }
+        self.repeated_times += said.repeated_times;
         if let Call::Tally { .. } | Call::Page { .. } = call {
             self.beyond_the_stack += u64::from(said.values.last().is_some_and(|count| *count > 0));
         }
@@ -54,8 +58,8 @@ impl Turns {
     }
 }
 
-/// Up to 17; 20 is counted apart, since no script has an area of a wrong length.
-const NUMBERS: usize = 18;
+/// Up to 18; 20 is counted apart, since no script has an area of a wrong length.
+const NUMBERS: usize = 19;
 /// The places of calls in the table: in the order of `Call::NAMES` and then of `Carry::NAMES`, last these two.
 const PAIRS: usize = Call::NAMES.len() + Carry::NAMES.len();
 const TOLERANT: usize = PAIRS + 1;
@@ -73,6 +77,9 @@ const NUMBERS_OF_CALLS: [&[usize]; CALLS] = [
     &[0, 5, 15],
     &[0, 1, 2, 3, 4, 5, 7, 8, 10, 11],
     &[0, 1, 2, 3, 9, 10],
+    &[0, 1, 2, 3, 4, 5, 6, 10, 12],
+    &[0, 1, 2, 3, 5, 7, 8, 10, 11, 18],
+    &[0, 1, 2, 3, 5, 7, 8, 10, 11, 18],
     &[0, 1, 2, 3, 10, 13],
     &[0, 1, 2, 3, 10, 13, 14],
     &[0, 1, 2, 3, 10, 16],
@@ -89,6 +96,7 @@ pub struct Figures {
     pub paired: Paired,
     pub tolerated: Tolerated,
     pub counted: Counted,
+    pub imported: Imported,
     pub wrong_lengths: u64,
     /// Calls on stores of form 0, which the model alone answers.
     of_form_0: u64,
@@ -128,12 +136,13 @@ impl Figures {
         }
     }
 
-    /// Counts what an accepted call of the library does in the paper log.
+    /// Counts what an accepted call of the library, or any import, does in the paper log.
     pub fn count_said(&mut self, form: Form, call: &Call, said: &Said) {
         if form == Form::New {
             self.by_paper_log += 1;
             self.turns.count(call, said);
             self.counted.count_said(call, said);
+            self.imported.count_said(call, said);
         }
     }
 
@@ -145,13 +154,14 @@ impl Figures {
         Call::NAMES.into_iter().chain(Carry::NAMES).chain([Pairs::NAME, Tolerant::NAME]).zip(&self.calls)
     }
 
-    /// Every pair of call and number that was not met, the generator's among them, and every refusal for counts.
+    /// Every pair of call and number that was not met, the generator's among them, every refusal for counts, and the end of an
+    /// import by its own lifts.
     pub fn missing(&self) -> Vec<String> {
         let rows = self.rows().zip(NUMBERS_OF_CALLS);
         let pairs = rows.flat_map(|((name, counts), numbers)| numbers.iter().map(move |n| (name, *n, counts[*n])));
         let pairs = pairs.chain(self.lists.pairs());
         let missing = pairs.filter(|(_, _, count)| *count == 0).map(|(name, number, _)| format!("{name} {number}"));
-        missing.chain(self.counted.missing()).collect()
+        missing.chain(self.counted.missing()).chain(self.imported.missing()).collect()
     }
 
     pub fn print(&self) {
@@ -169,5 +179,6 @@ impl Figures {
         self.paired.print();
         self.tolerated.print();
         self.counted.print();
+        self.imported.print();
     }
 }

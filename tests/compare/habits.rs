@@ -1,10 +1,12 @@
 //! Chooses the calls of a list: what a console would ask, and what it should not.
+use crate::imports;
 use crate::judge::Step;
 use crate::patterns::{near_plate_end, Loads, Times};
 use crate::random::Random;
 use crate::tolerant;
 use crate::trial::Trial;
 use model::limits::{EVERYTHING, GREATEST_LOAD, LAST_TIME, LEAST_LOAD};
+use model::paper::Lift;
 use model::stacks::{carried, ends};
 use script::calls::{Call, Window, ROW_BYTES};
 use script::command::Field;
@@ -14,10 +16,11 @@ pub struct Habits {
     pub slots: u64,
     loads: Loads,
     times: Times,
-    /// One call in so many is a close, a drop, a search, of no use.
+    /// One call in so many is a close, a drop, a search, an import, of no use.
     close_in: u64,
     drop_in: u64,
     search_in: u64,
+    import_in: u64,
     odd_in: u64,
     /// Of four appends and drops so many keep counts, in form 1.
     keeping: u64,
@@ -36,6 +39,7 @@ impl Habits {
             close_in: random.pick(&[5, 60, 1000, 4000, 4000]),
             drop_in: random.pick(&[10, 200, 4000, 4000]),
             search_in: random.pick(&[4, 12, 40]),
+            import_in: random.pick(&[20, 100, 1000]),
             odd_in: random.pick(&[20, 60]),
             keeping: random.pick(&[0, 0, 4, 4, 3]),
             lifts: Vec::new(),
@@ -63,7 +67,7 @@ impl Habits {
         self.keeping = keeping;
     }
 
-    fn keeps(&self, trial: &mut Trial) -> bool {
+    pub fn keeps(&self, trial: &mut Trial) -> bool {
         trial.form == Form::New && trial.random.below(4) < self.keeping
     }
 
@@ -87,6 +91,10 @@ impl Habits {
         if random.once_in(self.drop_in) {
             return self.drop(trial);
         }
+        if trial.form == Form::New && random.once_in(self.import_in) {
+            let records = random.below(30);
+            return imports::import(trial, self, records);
+        }
         if random.once_in(1000) {
             self.loads = Loads::any(random);
             self.times = Times::any(random);
@@ -108,6 +116,18 @@ impl Habits {
         Ok(())
     }
 
+    /// Lifts that may be appended one after another.
+    pub fn next_lifts(&mut self, trial: &mut Trial, count: u64) -> Vec<Lift> {
+        let mut time = trial.field(Field::Next);
+        let lift = |_| {
+            time = self.times.after(time, &mut trial.random);
+            Lift { time, load: self.loads.next(&mut trial.random), note: trial.random.note() }
+        };
+        let lifts: Vec<Lift> = (0..count).map(lift).collect();
+        self.lifts.extend(lifts.iter().map(|lift| (lift.time, lift.load)));
+        lifts
+    }
+
     pub fn close(&mut self, trial: &mut Trial) -> Step {
         trial.call(Call::Close { slots: self.slots })
     }
@@ -117,7 +137,7 @@ impl Habits {
         trial.call(Call::Drop { keeps, slots: self.slots })
     }
 
-    /// A search, now and then a tally, a page, a plate or, in form 1, a tolerant search.
+    /// A search, now and then a tally, a page, a plate or, in form 1, a tolerant search or an export.
     pub fn ask(&mut self, trial: &mut Trial) -> Step {
         let slots = self.slots;
         let window = self.window(&mut trial.random);
@@ -134,6 +154,7 @@ impl Habits {
                 let tolerance = tolerant::any_tolerance(&mut trial.random);
                 tolerant::search_about(trial, slots, window, tolerance)
             }
+            4 if trial.form == Form::New => imports::export(trial, slots, window),
             _ => {
                 let found = trial.rows_found(slots, &window) * ROW_BYTES;
                 let area_bytes = match trial.random.below(6) {

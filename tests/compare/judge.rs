@@ -1,5 +1,7 @@
 //! Gives every command to the store and to the model, and compares all that they leave.
+use crate::difference::{compare_areas, compare_bytes, compare_numbers, compare_outputs, compare_with_log, differ};
 use crate::figures::Figures;
+use crate::imported;
 use crate::page_rules;
 use crate::paired;
 use crate::programs;
@@ -7,21 +9,15 @@ use crate::reached::Reached;
 use crate::tolerated;
 use abi::{LentStore, Library, ReadStore};
 use model::bytes::Expectation;
-use model::paper::{PaperLog, Said};
+use model::paper::PaperLog;
 use script::areas::{Areas, World, STORES};
 use script::calls::{Call, Carry, Outputs, Pairs, Store, Tolerant, TolerantOutputs};
-use script::command::{Command, Part};
+use script::command::Command;
 use script::form::Form;
 use script::hash::copy_changed;
 use std::rc::Rc;
 
-/// What differs, in words.
-pub struct Difference(pub String);
-pub type Step = Result<(), Difference>;
-
-fn differ(command: &Command, what: String) -> Step {
-    Err(Difference(format!("{command}: {what}")))
-}
+pub use crate::difference::{Difference, Step};
 
 /// The library with the areas it is lent.
 struct Tested {
@@ -152,7 +148,7 @@ impl Judge {
             Command::Pairs(pairs) => return self.pairs(command, pairs),
             Command::Tolerant(tolerant) => return self.tolerant(command, tolerant),
             Command::Gen(input) => return self.generate(input),
-            Command::Rows | Command::Dump { .. } | Command::Changed => return Ok(()),
+            Command::Rows | Command::Text | Command::Dump { .. } | Command::Changed => return Ok(()),
             Command::Use(_) => {}
             Command::Snap => self.kept.clone_from(&self.reached),
             Command::Back => self.reached.clone_from(&self.kept),
@@ -184,18 +180,36 @@ impl Judge {
                 copy_changed(&tested.world.areas.nand, &mut tested.nand_before);
                 copy_changed(&tested.world.areas.nor, &mut tested.nor_before);
             }
+            let before = imported::remembered(call, &tested.world.areas);
             let mut outputs = Outputs::untouched(form, call);
             let number = Library.answer(form, call, &mut tested.world.areas, &mut outputs);
-            if number != expected_number {
-                return differ(command, format!("number {number}, expected {expected_number}"));
-            }
+            compare_numbers(command, number, expected_number)?;
             compare_outputs(command, &outputs, &expected_outputs)?;
             self.compare_areas(command)?;
+            self.hold_text(command, call, number, &outputs, before)?;
         }
         if let (Call::Search { .. }, 0) = (call, expected_number) {
             self.figures.rows += expected_outputs.count();
         }
         self.hold_to_log(command, form, call, expected_number, &expected_outputs)
+    }
+
+    /// The store's own search has its word on an export, a fresh store on the text of one that is reached from a format; an
+    /// import that ended is held to the records before.
+    fn hold_text(
+        &mut self, command: &Command, call: &Call, number: u8, outputs: &Outputs, before: Option<Areas>,
+    ) -> Step {
+        let is_reached = self.reached().is_some_and(|reached| reached.log.form() == Form::New);
+        let Some(tested) = &mut self.tested else { return Ok(()) };
+        let (areas, held) = (&mut tested.world.areas, &mut self.figures.imported);
+        let broken = |what: String| Difference(format!("{command}: {what}"));
+        held.count(call, number, outputs);
+        held.check_search(call, number, outputs, areas, &mut Library).map_err(broken)?;
+        if let (Call::Export { .. }, 0, true) = (call, number, is_reached) {
+            held.check_fresh_store(imported::exported(number, outputs), &mut Library).map_err(broken)?;
+        }
+        let Some(before) = before else { return Ok(()) };
+        held.check_earlier_records(call, number, outputs, [&before, areas], &mut Library).map_err(broken)
     }
 
     /// By now the store's answer is the expected one; the paper log has its own word on both.
@@ -211,16 +225,11 @@ impl Judge {
             self.reached[store] = None;
             return Ok(());
         }
-        let (log_number, said) = match reached.call(call) {
-            Ok(said) => (0, said),
-            Err(number) => (number, Said::default()),
-        };
-        if number != log_number {
-            return differ(command, format!("number {number}, in the paper log {log_number}"));
+        let said = reached.call(call);
+        if number != said.number {
+            return differ(command, format!("number {number}, in the paper log {}", said.number));
         }
-        if number == 0 {
-            compare_with_log(command, outputs, &said)?;
-        }
+        compare_with_log(command, outputs, &said)?;
         if let (Call::Search { window, .. }, Form::New, 0) = (call, form, number) {
             let bounds_kept = self.figures.pages_read.check(&reached.log, window, outputs);
             bounds_kept.or_else(|broken| differ(command, broken))?;
@@ -240,7 +249,8 @@ impl Judge {
     fn hold_counts(&mut self, command: &Command) -> Step {
         let reached = self.reached[self.expected.selected()].as_ref();
         let (Some(tested), Some(reached)) = (&mut self.tested, reached) else { return Ok(()) };
-        let held = self.figures.counted.check(reached, &mut tested.world.areas, &mut Library);
+        let after_import = matches!(command, Command::Call(_, Call::Import { .. }));
+        let held = self.figures.counted.check(after_import, reached, &mut tested.world.areas, &mut Library);
         held.or_else(|broken| differ(command, broken))
     }
 
@@ -253,9 +263,7 @@ impl Judge {
         self.figures.count_carry(carry, number);
         if let Some(tested) = &mut self.tested {
             let given = tested.world.carry(carry, &mut Library);
-            if given != number {
-                return differ(command, format!("number {given}, expected {number}"));
-            }
+            compare_numbers(command, given, number)?;
             self.compare_stores(command, carry.second)?;
         }
         let second = self.expected.store(carry.second);
@@ -280,9 +288,7 @@ impl Judge {
         if let Some(tested) = &self.tested {
             let mut outputs = pairs.outputs();
             let given = tested.world.pairs(pairs, &mut Library, &mut outputs);
-            if given != number {
-                return differ(command, format!("number {given}, expected {number}"));
-            }
+            compare_numbers(command, given, number)?;
             compare_outputs(command, &outputs, &expected_outputs)?;
             self.compare_stores(command, pairs.second)?;
         }
@@ -306,9 +312,7 @@ impl Judge {
         if let Some(tested) = &self.tested {
             let mut outputs = call.outputs();
             let given = Library.tolerant(call, &tested.world.areas, &mut outputs);
-            if given != number {
-                return differ(command, format!("number {given}, expected {number}"));
-            }
+            compare_numbers(command, given, number)?;
             compare_bytes(command, "answer area", &outputs.answer, &expected.answer)?;
             compare_bytes(command, "certain lifts' area", &outputs.lists[0], &expected.lists[0])?;
             compare_bytes(command, "possible lifts' area", &outputs.lists[1], &expected.lists[1])?;
@@ -339,49 +343,4 @@ impl Judge {
         }
         Ok(())
     }
-}
-
-/// The pages that a search reads stand behind its count, and the log has no word on them.
-fn compare_with_log(command: &Command, outputs: &Outputs, said: &Said) -> Step {
-    if !outputs.answer.starts_with(&said.answer()) {
-        return differ(command, format!("the paper log answers {:?}", said.values));
-    }
-    if outputs.rows[..said.rows.len()] != said.rows[..] {
-        return differ(command, "other rows than in the paper log".into());
-    }
-    Ok(())
-}
-
-fn compare_outputs(command: &Command, got: &Outputs, expected: &Outputs) -> Step {
-    compare_bytes(command, "answer area", &got.answer, &expected.answer)?;
-    compare_bytes(command, "result area", &got.rows, &expected.rows)
-}
-
-fn compare_areas(command: &Command, of: &str, got: &Areas, expected: &Areas) -> Step {
-    let parts = [
-        ("state of form 1", Part::State(Form::New)),
-        ("state of form 0", Part::State(Form::Old)),
-        ("NOR", Part::Nor),
-        ("NAND", Part::Nand),
-    ];
-    parts.iter().try_for_each(|(name, part)| {
-        compare_bytes(command, &format!("{of}{name}"), got.part(*part), expected.part(*part))
-    })?;
-    compare_bytes(command, &format!("{of}counts"), &got.counts, &expected.counts)
-}
-
-fn compare_bytes(command: &Command, area: &str, got: &[u8], expected: &[u8]) -> Step {
-    match first_difference(got, expected) {
-        Some(difference) => differ(command, format!("{area} {difference}")),
-        None => Ok(()),
-    }
-}
-
-/// The first byte in which two areas of one length differ.
-pub fn first_difference(got: &[u8], expected: &[u8]) -> Option<String> {
-    if got == expected {
-        return None;
-    }
-    let place = got.iter().zip(expected).position(|(got, expected)| got != expected).unwrap_or(0);
-    Some(format!("byte {place} is {}, expected {}", got[place], expected[place]))
 }

@@ -49,6 +49,8 @@ pub fn try_wrong_ones(trial: &mut Trial, slots: u64) -> Step {
     let slots = if trial.random.once_in(4) { slots + 1 } else { slots };
     let time = trial.random.below(1000);
     let window = Window { t1: 0, t2: time, k1: -10, k2: 10 };
+    let text =
+        trial.random.pick(&[&b"time,load,member\r\n999999999999999,100,1\r\n"[..], b"time,load,member", b""]).to_vec();
     let calls = [
         Call::Format { slots },
         Call::Append { keeps: false, slots, time, load: 100, note: trial.random.note() },
@@ -60,6 +62,9 @@ pub fn try_wrong_ones(trial: &mut Trial, slots: u64) -> Step {
         Call::Tally { slots, t1: 0, t2: time },
         Call::Page { slots, t1: 0, t2: time },
         Call::Plate { place: trial.random.below(3), load: 251 },
+        Call::Export { slots, window, area_bytes: 64 },
+        Call::Import { keeps: false, slots, text: text.clone() },
+        Call::Import { keeps: true, slots, text },
     ];
     calls.iter().try_for_each(|call| try_wrong_one(trial, call))?;
     try_wrong_plain_format(trial, slots)?;
@@ -72,7 +77,10 @@ fn which_are_wrong(call: &Call, random: &mut Random) -> [bool; 3] {
     let [yes, no] = [true, false];
     match call {
         Call::Plate { .. } => [no, no, yes],
-        Call::Search { .. } | Call::Tally { .. } | Call::Page { .. } => {
+        Call::Import { keeps: true, .. } => {
+            random.pick(&[[yes, no, no], [no, yes, no], [no, no, yes], [yes, yes, no], [no, yes, yes], [yes; 3]])
+        }
+        Call::Search { .. } | Call::Tally { .. } | Call::Page { .. } | Call::Export { .. } | Call::Import { .. } => {
             random.pick(&[[yes, no, no], [no, no, yes], [yes, no, yes]])
         }
         _ if call.has_counts() => random.pick(&[[yes, no, no], [no, yes, no], [yes, yes, no]]),

@@ -5,9 +5,13 @@ mod convert;
 mod counted;
 mod counts;
 mod damage;
+mod difference;
 mod edges;
 mod figures;
+mod files;
 mod habits;
+mod imported;
+mod imports;
 mod judge;
 mod lengths;
 mod lines;
@@ -42,7 +46,7 @@ const USAGE: &str = "compare random SECONDS SEED FOLDER | compare fixed SCRIPT..
 
 type Kind = (&'static str, fn(&mut Trial) -> Step);
 const LARGE: Kind = ("large", lists::on_largest_chip);
-const KINDS: [Kind; 10] = [
+const KINDS: [Kind; 11] = [
     ("list", lists::short_or_long),
     ("damage", damage::rounds),
     ("state", states::rounds),
@@ -52,6 +56,7 @@ const KINDS: [Kind; 10] = [
     ("pairs", pairs::rounds),
     ("tolerant", tolerant::rounds),
     ("counts", counts::rounds),
+    ("imports", imports::rounds),
     LARGE,
 ];
 
@@ -59,7 +64,7 @@ const KINDS: [Kind; 10] = [
 fn kind_at(place: u64) -> Kind {
     match place {
         place if place % 1000 == 100 => LARGE,
-        place => KINDS[[0, 1, 4, 6, 7, 8, 0, 5, 1, 2, 0, 8, 6, 7, 4, 1, 3][(place % 17) as usize]],
+        place => KINDS[[0, 1, 4, 6, 7, 8, 9, 0, 5, 1, 2, 9, 0, 8, 6, 7, 4, 1, 3][(place % 19) as usize]],
     }
 }
 

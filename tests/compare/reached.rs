@@ -1,9 +1,9 @@
 //! A store reached from a format: its paper log, which goes along where it is carried over, and W-203's claims of it.
 use crate::counted::Balance;
-use crate::judge::first_difference;
+use crate::difference::first_difference;
 use crate::trial::NOR_BYTES;
 use model::counts::Counts;
-use model::limits::{Outcome, NO_WAY_BACK};
+use model::limits::NO_WAY_BACK;
 use model::paper::{PaperLog, Said};
 use script::areas::{Areas, SLOT_BYTES};
 use script::calls::{Call, Carry};
@@ -25,13 +25,17 @@ impl Reached {
         Reached { log: PaperLog::formatted(form, slots), carried_from: None, balance: Some(Balance::default()) }
     }
 
-    pub fn call(&mut self, call: &Call) -> Outcome<Said> {
-        let said = self.log.call(call)?;
-        if matches!(call, Call::Append { .. } | Call::Close { .. } | Call::Drop { .. }) {
+    pub fn call(&mut self, call: &Call) -> Said {
+        let said = self.log.call(call);
+        let is_import = matches!(call, Call::Import { .. });
+        if said.number != 0 && !is_import {
+            return said;
+        }
+        if is_import || matches!(call, Call::Append { .. } | Call::Close { .. } | Call::Drop { .. }) {
             self.carried_from = None;
         }
         self.balance = self.balance.take().and_then(|balance| balance.after(call, &said));
-        Ok(said)
+        said
     }
 
     pub fn set_count(&mut self, plate: usize, value: u32) {

@@ -1,7 +1,7 @@
 //! A script under way: every command goes to the judge and into the record.
 use crate::judge::{Judge, Step};
 use crate::random::Random;
-use model::bytes::{found, pairs_found, tolerant_found};
+use model::bytes::{exported, found, pairs_found, tolerant_found};
 use script::areas::{Areas, PAGE_BYTES, SLOT_BYTES};
 use script::calls::{Call, Pairs, Tolerant, Window};
 use script::command::{Command, Field, Fill, Part};
@@ -93,6 +93,11 @@ impl<'a> Trial<'a> {
     /// How many certain and possible lifts a tolerant search would find, 0 of each if it would be refused.
     pub fn tolerant_found(&self, call: &Tolerant) -> [usize; 2] {
         tolerant_found(self.areas(), call).map_or([0; 2], |lists| lists.each_ref().map(Vec::len))
+    }
+
+    /// The text of an export, empty if it would be refused.
+    pub fn exported(&self, slots: u64, window: &Window) -> Vec<u8> {
+        exported(self.areas(), slots, window).unwrap_or_default()
     }
 
     /// How many rows a search would find, 0 if it would be refused.

@@ -1,5 +1,4 @@
 //! Document 01, "Program", and W-201: what `slotlist` prints.
-use crate::limits::Outcome;
 use crate::lines::{asked, lines_of, Asked, SLOTS};
 use crate::paper::{PaperLog, Said};
 use script::calls::Call;
@@ -10,19 +9,19 @@ pub fn answers(input: &[u8]) -> impl Iterator<Item = String> + '_ {
     let mut log = PaperLog::formatted(Form::New, SLOTS);
     lines_of(input).map(move |line| match asked(line) {
         Some(asked) => {
-            let outcome = log.call(&asked.call);
-            answer(&asked, &outcome, &log)
+            let said = log.call(&asked.call);
+            answer(&asked, &said, &log)
         }
         None => "?\n".to_string(),
     })
 }
 
 /// "It prints letter and number (3 columns, 0 accepted)", then what an accepted line adds.
-fn answer(asked: &Asked, outcome: &Outcome<Said>, log: &PaperLog) -> String {
+fn answer(asked: &Asked, said: &Said, log: &PaperLog) -> String {
     let letter = asked.letter;
-    match outcome {
-        Err(number) => format!("{letter}{number:3}\n"),
-        Ok(said) => format!("{letter}  0{}\n", added(asked, said, log)),
+    match said.number {
+        0 => format!("{letter}  0{}\n", added(asked, said, log)),
+        number => format!("{letter}{number:3}\n"),
     }
 }
 

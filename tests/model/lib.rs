@@ -1,4 +1,4 @@
-//! Document 01, with W-201 to W-210, read a second time: the paper log, the programs' inputs, and an expectation of every
+//! Document 01, with W-201 to W-211, read a second time: the paper log, the programs' inputs, and an expectation of every
 //! byte.
 pub mod answers;
 pub mod bytes;
@@ -12,4 +12,5 @@ pub mod plate;
 pub mod service_page;
 pub mod split;
 pub mod stacks;
+pub mod text;
 pub mod tolerant;

@@ -36,6 +36,7 @@ pub const NO_WAY_BACK: u8 = 14;
 pub const NO_STACK: u8 = 15;
 pub const TOO_MANY_PAIRS: u8 = 16;
 pub const TOLERANCE_LIMIT: u8 = 17;
+pub const OTHER_TEXT: u8 = 18;
 
 /// What a call gives, or the number of the first ground against it.
 pub type Outcome<T> = Result<T, u8>;

@@ -1,11 +1,12 @@
-//! Document 01, "Paper log": lists of lifts under serials, and W-210's counts beside them. It never sees chips, state or
-//! answers.
+//! Document 01, "Paper log": lists of lifts under serials, and W-210's counts beside them; what it says of W-211's text. It
+//! never sees chips, state or answers.
 use crate::counts::Counts;
 use crate::limits::*;
 use crate::load_tree::LoadTree;
 use crate::plate::plate_of;
 use crate::service_page::{page, text_of};
 use crate::stacks::plate_at;
+use crate::text::{check_area, import, text_of as text_of_lifts, Importing};
 use script::calls::{Call, Window};
 use script::form::Form;
 
@@ -20,6 +21,16 @@ pub struct Lift {
 }
 
 impl Lift {
+    /// The lift that a search gives so, with a load within its limits.
+    pub fn of_record(record: &Record) -> Lift {
+        let stored_load = u32::from_le_bytes(record[8..12].try_into().unwrap());
+        Lift {
+            time: u64::from_le_bytes(record[..8].try_into().unwrap()),
+            load: (i64::from(stored_load) - LOAD_SHIFT) as i32,
+            note: record[12..].try_into().unwrap(),
+        }
+    }
+
     pub fn record(&self) -> Record {
         let mut record = [0; ROW_BYTES];
         let stored_load = (i64::from(self.load) + LOAD_SHIFT) as u32;
@@ -38,25 +49,41 @@ pub enum Closed {
     ForBucket36,
 }
 
-/// What the log says of a call beside its number.
+/// What the log says of a call. An import appends many lifts, also one that is refused.
 #[derive(Default)]
 pub struct Said {
-    /// A serial that went: its slot, and no other, is erased in this call.
-    pub gone: Option<u64>,
-    /// How many lifts went with it.
+    pub number: u8,
+    pub lifts_taken: u64,
+    /// Serials that went: their slots, and no others, are erased in this call.
+    pub gone: Vec<u64>,
+    /// How many lifts went with them.
     pub lifts_gone: u64,
-    pub closed: Option<Closed>,
-    /// An append at the time of the one before it.
-    pub repeats_time: bool,
-    /// The rows of a search, one after another.
+    pub closed: Vec<Closed>,
+    /// Appends at the time of the one before.
+    pub repeated_times: u64,
+    /// The rows of a search, one after another; the text of an export.
     pub rows: Vec<u8>,
-    /// Of a search the count of rows (no log knows of pages read), of a tally or a page its counts, of a lookup the plate.
+    /// Of a search the count of rows (no log knows of pages read), of a tally or a page its counts, of a lookup the plate, of
+    /// an export the length, of an import the line.
     pub values: Vec<u64>,
     /// The lines of a page.
     pub page: Vec<String>,
 }
 
 impl Said {
+    fn refusal(number: u8) -> Said {
+        Said { number, ..Said::default() }
+    }
+
+    /// Takes in what is said of one append more.
+    fn go_on(&mut self, append: Said) {
+        self.lifts_taken += append.lifts_taken;
+        self.gone.extend(append.gone);
+        self.lifts_gone += append.lifts_gone;
+        self.closed.extend(append.closed);
+        self.repeated_times += append.repeated_times;
+    }
+
     /// The bytes of the answer area: the values, or the page.
     pub fn answer(&self) -> Vec<u8> {
         if self.page.is_empty() {
@@ -138,9 +165,15 @@ impl PaperLog {
     }
 
     /// The number of a call after the format, and what it does.
-    pub fn call(&mut self, call: &Call) -> Outcome<Said> {
+    pub fn call(&mut self, call: &Call) -> Said {
+        self.answer(call).unwrap_or_else(Said::refusal)
+    }
+
+    /// What is said of an accepted call, and of any import.
+    fn answer(&mut self, call: &Call) -> Outcome<Said> {
         match *call {
             Call::Plate { place, load } => Ok(Said { values: vec![plate_at(place, load)? as u64], ..Said::default() }),
+            Call::Import { keeps, slots, ref text } => Ok(self.import(keeps, slots, text)),
             Call::Format { slots }
             | Call::Append { slots, .. }
             | Call::Close { slots }
@@ -148,6 +181,7 @@ impl PaperLog {
             | Call::Search { slots, .. }
             | Call::Tally { slots, .. }
             | Call::Page { slots, .. }
+            | Call::Export { slots, .. }
                 if slots != self.slots =>
             {
                 Err(SLOTS_OR_NAND_LENGTH)
@@ -162,6 +196,7 @@ impl PaperLog {
             Call::Search { window, area_bytes, .. } => self.search(&window, area_bytes / ROW_BYTES),
             Call::Tally { t1, t2, .. } => self.tally(t1, t2),
             Call::Page { t1, t2, .. } => self.service_page(t1, t2),
+            Call::Export { window, area_bytes, .. } => self.export(&window, area_bytes),
         }
     }
 
@@ -180,7 +215,7 @@ impl PaperLog {
         };
         let serial = self.open_serial + u64::from(closed.is_some());
         let is_forced = serial > self.slots && self.oldest_serial() <= serial - self.slots;
-        let said = if is_forced { self.lose_oldest(keeps)? } else { Said::default() };
+        let mut said = if is_forced { self.lose_oldest(keeps)? } else { Said::default() };
         if keeps {
             self.counts.add(lift.load);
         }
@@ -188,10 +223,12 @@ impl PaperLog {
             self.begin_next_serial();
         }
         self.open_tree.take(lift.load);
-        let repeats_time = Some(lift.time) == self.last_time;
+        said.lifts_taken = 1;
+        said.closed.extend(closed);
+        said.repeated_times = u64::from(Some(lift.time) == self.last_time);
         self.last_time = Some(lift.time);
         self.open.push(lift);
-        Ok(Said { closed, repeats_time, ..said })
+        Ok(said)
     }
 
     /// "Counts with a sum above 1,310,720 break ground 3", for a call that keeps them.
@@ -210,7 +247,7 @@ impl PaperLog {
             self.counts = self.counts.less(&lost)?;
         }
         let lifts = self.closed.pop_front().map_or(0, |lifts| lifts.len() as u64);
-        Ok(Said { gone: Some(gone), lifts_gone: lifts, ..Said::default() })
+        Ok(Said { gone: vec![gone], lifts_gone: lifts, ..Said::default() })
     }
 
     fn begin_next_serial(&mut self) {
@@ -222,7 +259,7 @@ impl PaperLog {
     fn close(&mut self) -> Outcome<Said> {
         refuse_if(self.open.is_empty(), NOTHING_TO_DO)?;
         self.begin_next_serial();
-        Ok(Said { closed: Some(Closed::ByClose), ..Said::default() })
+        Ok(Said { closed: vec![Closed::ByClose], ..Said::default() })
     }
 
     fn drop_oldest(&mut self, keeps: bool) -> Outcome<Said> {
@@ -259,5 +296,38 @@ impl PaperLog {
     fn service_page(&self, t1: u64, t2: u64) -> Outcome<Said> {
         let tally = self.tally(t1, t2)?;
         Ok(Said { page: page(t1, t2, &tally.values), ..tally })
+    }
+
+    fn export(&self, window: &Window, area_bytes: usize) -> Outcome<Said> {
+        let text = text_of_lifts(self.found(window)?.into_iter());
+        check_area(&text, area_bytes)?;
+        Ok(Said { values: vec![text.len() as u64], rows: text, ..Said::default() })
+    }
+
+    fn import(&mut self, keeps: bool, slots: u64, text: &[u8]) -> Said {
+        let mut target = Target { log: self, keeps, slots, said: Said::default() };
+        let (number, line) = import(text, &mut target);
+        Said { number, values: vec![line], ..target.said }
+    }
+}
+
+/// A log under import, and what is said of the lifts that went in.
+struct Target<'a> {
+    log: &'a mut PaperLog,
+    keeps: bool,
+    slots: u64,
+    said: Said,
+}
+
+impl Importing for Target<'_> {
+    fn check(&self) -> Outcome<()> {
+        refuse_if(self.slots != self.log.slots, SLOTS_OR_NAND_LENGTH)?;
+        self.log.check_counts(self.keeps)
+    }
+
+    fn append(&mut self, lift: Lift) -> Outcome<()> {
+        let append = self.log.append(self.keeps, lift)?;
+        self.said.go_on(append);
+        Ok(())
     }
 }

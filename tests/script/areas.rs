@@ -164,7 +164,7 @@ impl World {
                 }
             }
             Command::Call(..) | Command::Carry(_) | Command::Pairs(_) | Command::Tolerant(_) | Command::Gen(_) => {}
-            Command::Rows | Command::Dump { .. } | Command::Changed => {}
+            Command::Rows | Command::Text | Command::Dump { .. } | Command::Changed => {}
         }
     }
 }

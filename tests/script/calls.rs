@@ -19,7 +19,8 @@ pub struct Window {
 }
 
 /// The seven calls of document 01 and the service page (W-201), which form 0 has not; a plate is looked up on the stack at a
-/// place (W-205). In form 1 an append and a drop may keep counts, and a format sets them to 0 (W-210).
+/// place (W-205). In form 1 an append and a drop may keep counts, and a format sets them to 0 (W-210); a search may be written
+/// as text, and a text appended, keeping counts or not (W-211).
 #[derive(Clone, Debug, PartialEq)]
 pub enum Call {
     Format { slots: u64 },
@@ -30,11 +31,15 @@ pub enum Call {
     Tally { slots: u64, t1: u64, t2: u64 },
     Page { slots: u64, t1: u64, t2: u64 },
     Plate { place: u64, load: i32 },
+    Export { slots: u64, window: Window, area_bytes: usize },
+    Import { keeps: bool, slots: u64, text: Vec<u8> },
 }
 
 impl Call {
-    pub const NAMES: [&'static str; 10] =
-        ["format", "append", "close", "drop", "search", "tally", "page", "plate", "appendk", "dropk"];
+    pub const NAMES: [&'static str; 13] = [
+        "format", "append", "close", "drop", "search", "tally", "page", "plate", "appendk", "dropk", "export",
+        "import", "importk",
+    ];
 
     /// The call's place in `NAMES`.
     pub fn kind(&self) -> usize {
@@ -49,6 +54,9 @@ impl Call {
             Call::Plate { .. } => 7,
             Call::Append { keeps: true, .. } => 8,
             Call::Drop { keeps: true, .. } => 9,
+            Call::Export { .. } => 10,
+            Call::Import { keeps: false, .. } => 11,
+            Call::Import { keeps: true, .. } => 12,
         }
     }
 
@@ -60,16 +68,17 @@ impl Call {
     pub fn has_counts(&self) -> bool {
         match self {
             Call::Format { .. } => true,
-            Call::Append { keeps, .. } | Call::Drop { keeps, .. } => *keeps,
+            Call::Append { keeps, .. } | Call::Drop { keeps, .. } | Call::Import { keeps, .. } => *keeps,
             _ => false,
         }
     }
 
-    /// Of a search count and pages read. A page has a heading, a line for each plate and a total.
+    /// Of a search count and pages read, of an export the length, of an import the line. A page has a heading, a line for each
+    /// plate and a total.
     fn answer_bytes(&self, form: Form) -> usize {
         match self {
             Call::Search { .. } => 8 * (1 + form.page_counts()),
-            Call::Plate { .. } => 8,
+            Call::Plate { .. } | Call::Export { .. } | Call::Import { .. } => 8,
             Call::Tally { .. } => 8 * form.counts(),
             Call::Page { .. } => (1 + form.counts() + 1) * (PAGE_COLUMNS + 1),
             _ => 0,
@@ -156,19 +165,23 @@ impl TolerantOutputs {
 /// The two areas that any other call writes its answer into.
 #[derive(Clone, Debug, PartialEq)]
 pub struct Outputs {
+    /// Rows, or the text of an export. An import reads its text here, and leaves it as it is.
     pub rows: Vec<u8>,
-    /// Numbers of eight bytes: a search's count and pages read, a tally's counts, a plate, a count of pairs; or the lines of a
-    /// page.
+    /// Numbers of eight bytes: a search's count and pages read, a tally's counts, a plate, a count of pairs, the length of an
+    /// export, the line of an import; or the lines of a page.
     pub answer: Vec<u8>,
 }
 
 impl Outputs {
     pub fn untouched(form: Form, call: &Call) -> Outputs {
-        let area_bytes = match call {
-            Call::Search { area_bytes, .. } => *area_bytes,
-            _ => 0,
-        };
-        Outputs::of_lengths(area_bytes, call.answer_bytes(form))
+        let answer_bytes = call.answer_bytes(form);
+        match call {
+            Call::Search { area_bytes, .. } | Call::Export { area_bytes, .. } => {
+                Outputs::of_lengths(*area_bytes, answer_bytes)
+            }
+            Call::Import { text, .. } => Outputs { rows: text.clone(), ..Outputs::of_lengths(0, answer_bytes) },
+            _ => Outputs::of_lengths(0, answer_bytes),
+        }
     }
 
     fn of_lengths(rows: usize, answer: usize) -> Outputs {
@@ -180,7 +193,8 @@ impl Outputs {
         self.answer.chunks_exact(8).map(|bytes| u64::from_le_bytes(bytes.try_into().unwrap()))
     }
 
-    /// How many rows a search found, or pairs there are: the first number of the answer.
+    /// How many rows a search found, pairs there are or bytes an export has, or which line ended an import: the first number
+    /// of the answer.
     pub fn count(&self) -> u64 {
         self.values().next().expect("an answer with a count")
     }

@@ -16,8 +16,8 @@ impl Part {
     }
 }
 
-/// What `dump` prints bytes of: an area of the store, or the result area of the last search or of the last pairs; of a
-/// tolerant search the area of the certain lifts.
+/// What `dump` prints bytes of: an area of the store, or the result area of the last search, of the last pairs or of the last
+/// export; of a tolerant search the area of the certain lifts.
 #[derive(Clone, Copy, Debug, PartialEq)]
 pub enum Shown {
     Part(Part),
@@ -89,8 +89,8 @@ impl Field {
     }
 }
 
-/// A call of document 01 is of a form, a page of form 1; a plate is looked up without a store, and counts as form 1's. `Gen`
-/// has an input of the generator, which works on no store either.
+/// A call of document 01 is of a form, a page, an export and an import of form 1; a plate is looked up without a store, and
+/// counts as form 1's. `Gen` has an input of the generator, which works on no store either.
 #[derive(Clone, Debug, PartialEq)]
 pub enum Command {
     Use(usize),
@@ -106,6 +106,7 @@ pub enum Command {
     Tolerant(Tolerant),
     Gen(Vec<u8>),
     Rows,
+    Text,
     Dump { shown: Shown, offset: usize, length: usize },
     Changed,
 }
@@ -123,6 +124,14 @@ pub fn hex(bytes: &[u8]) -> String {
     bytes.iter().map(|byte| format!("{byte:02x}")).collect()
 }
 
+/// The bytes of an input as a word; '-' stands for none.
+fn input_word(bytes: &[u8]) -> String {
+    if bytes.is_empty() {
+        return "-".to_string();
+    }
+    hex(bytes)
+}
+
 /// The word that a line begins with: a call of form 0 has a 0 after its name.
 pub fn command_name(form: Form, call: &Call) -> String {
     match form {
@@ -137,7 +146,10 @@ impl fmt::Display for Call {
         match self {
             Call::Format { slots } | Call::Close { slots } | Call::Drop { slots, .. } => write!(out, "{slots}"),
             Call::Append { slots, time, load, note, .. } => write!(out, "{slots} {time} {load} {}", hex(note)),
-            Call::Search { slots, window, area_bytes } => write!(out, "{slots} {window} {area_bytes}"),
+            Call::Search { slots, window, area_bytes } | Call::Export { slots, window, area_bytes } => {
+                write!(out, "{slots} {window} {area_bytes}")
+            }
+            Call::Import { slots, text, .. } => write!(out, "{slots} {}", input_word(text)),
             Call::Tally { slots, t1, t2 } | Call::Page { slots, t1, t2 } => write!(out, "{slots} {t1} {t2}"),
             Call::Plate { place, load } => write!(out, "{place} {load}"),
         }
@@ -169,9 +181,9 @@ impl fmt::Display for Command {
             Command::Tolerant(Tolerant { slots, window, tolerance, area_bytes: [certain, possible] }) => {
                 write!(out, "{} {slots} {window} {tolerance} {certain} {possible}", Tolerant::NAME)
             }
-            Command::Gen(input) if input.is_empty() => write!(out, "gen -"),
-            Command::Gen(input) => write!(out, "gen {}", hex(input)),
+            Command::Gen(input) => write!(out, "gen {}", input_word(input)),
             Command::Rows => write!(out, "rows"),
+            Command::Text => write!(out, "text"),
             Command::Dump { shown, offset, length } => write!(out, "dump {} {offset} {length}", shown.name()),
             Command::Changed => write!(out, "changed"),
         }

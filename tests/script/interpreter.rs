@@ -11,6 +11,7 @@ pub struct Interpreter<S: Store> {
     store: S,
     world: World,
     found: Vec<u8>,
+    exported: Vec<u8>,
     result_area: Vec<u8>,
     nand_before: Vec<u8>,
     nor_before: Vec<u8>,
@@ -23,6 +24,7 @@ impl<S: Store> Interpreter<S> {
             store,
             world: World::empty(),
             found: Vec::new(),
+            exported: Vec::new(),
             result_area: Vec::new(),
             nand_before: Vec::new(),
             nor_before: Vec::new(),
@@ -51,6 +53,7 @@ impl<S: Store> Interpreter<S> {
             Command::Tolerant(tolerant) => self.tolerant(tolerant),
             Command::Gen(input) => format!("gen {}\n", hex(&self.store.generate(input)?)),
             Command::Rows => self.rows(),
+            Command::Text => self.text(),
             Command::Dump { shown, offset, length } => {
                 let bytes = match shown {
                     Shown::Part(part) => self.world.areas.part(*part),
@@ -112,7 +115,7 @@ impl<S: Store> Interpreter<S> {
         let mut outputs = Outputs::untouched(form, call);
         let number = self.store.answer(form, call, &mut self.world.areas, &mut outputs);
         let accepted = number == 0;
-        let mut line = format!("{} {number}", command_name(form, call));
+        let mut line = format!("{} {number}", answer_name(form, call));
         match call {
             Call::Search { .. } => {
                 let values: Vec<u64> = outputs.values().map(|value| if accepted { value } else { 0 }).collect();
@@ -123,6 +126,13 @@ impl<S: Store> Interpreter<S> {
                 pages_read.iter().for_each(|pages| line += &format!(" {pages}"));
                 self.result_area = outputs.rows;
             }
+            Call::Export { .. } => {
+                let length = if accepted { outputs.count() } else { 0 };
+                line += &format!(" {length} {:016x}", fnv1a(&outputs.rows));
+                self.exported = outputs.rows[..(length as usize).min(outputs.rows.len())].to_vec();
+                self.result_area = outputs.rows;
+            }
+            Call::Import { .. } => line += &format!(" {}", outputs.count()),
             Call::Tally { .. } | Call::Plate { .. } if accepted => {
                 outputs.values().for_each(|value| line += &format!(" {value}"));
             }
@@ -130,10 +140,10 @@ impl<S: Store> Interpreter<S> {
             Call::Page { .. } if accepted => return format!("{line}\n{}", String::from_utf8_lossy(&outputs.answer)),
             _ => {}
         }
-        if !matches!(call, Call::Plate { .. } | Call::Page { .. }) {
+        if !matches!(call, Call::Plate { .. } | Call::Page { .. } | Call::Export { .. }) {
             line += &hashes(&self.world.areas, form, &mut self.nand_hash);
         }
-        if form == Form::New && call.has_counts() {
+        if form == Form::New && (call.has_counts() || matches!(call, Call::Import { .. })) {
             line += &format!(" counts={:016x}", fnv1a(&self.world.areas.counts));
         }
         line + "\n"
@@ -148,6 +158,12 @@ impl<S: Store> Interpreter<S> {
         self.found.chunks(ROW_BYTES).map(row).collect()
     }
 
+    /// Each line of the last export with its CRLF, in which no byte is hidden: other than printable ones have a backslash.
+    fn text(&self) -> String {
+        let lines = self.exported.split_inclusive(|byte| *byte == b'\n');
+        lines.map(|line| format!("  {}\n", line.escape_ascii())).collect()
+    }
+
     fn changed(&self) -> String {
         let areas = &self.world.areas;
         let shared = areas.nand.len().min(self.nand_before.len());
@@ -159,6 +175,14 @@ impl<S: Store> Interpreter<S> {
         }
         let nor = areas.nor.iter().zip(&self.nor_before).filter(|(now, before)| now != before).count();
         format!("{line}\nnorchanged {nor}\n")
+    }
+}
+
+/// An import has one answer, whether it keeps counts or not.
+fn answer_name(form: Form, call: &Call) -> String {
+    match call {
+        Call::Import { .. } => "import".to_string(),
+        _ => command_name(form, call),
     }
 }
 

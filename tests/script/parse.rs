@@ -79,13 +79,16 @@ impl<'a> Words<'a> {
             "search" => Ok(Call::Search { slots, window: self.window()?, area_bytes: self.number()? }),
             "tally" => Ok(Call::Tally { slots, t1: self.number()?, t2: self.number()? }),
             "page" => Ok(Call::Page { slots, t1: self.number()?, t2: self.number()? }),
+            "export" => Ok(Call::Export { slots, window: self.window()?, area_bytes: self.number()? }),
+            "import" | "importk" => Ok(Call::Import { keeps: name == "importk", slots, text: self.input()? }),
             other => Err(format!("'{other}' is no command")),
         }
     }
 
-    /// A call of form 0 has a 0 after its name; it has no page, keeps no counts, and a plate is looked up without a store.
+    /// A call of form 0 has a 0 after its name; it has no page and no text, keeps no counts, and a plate is looked up without
+    /// a store.
     fn call_of_form(&mut self, name: &str) -> Result<Command, String> {
-        let of_form_1 = ["page", "plate", "appendk", "dropk"];
+        let of_form_1 = ["page", "plate", "appendk", "dropk", "export", "import", "importk"];
         match name.strip_suffix('0') {
             Some(old) if !of_form_1.contains(&old) => Ok(Command::Call(Form::Old, self.call(old)?)),
             _ => Ok(Command::Call(Form::New, self.call(name)?)),
@@ -119,6 +122,7 @@ impl<'a> Words<'a> {
             "snap" => Ok(Command::Snap),
             "back" => Ok(Command::Back),
             "rows" => Ok(Command::Rows),
+            "text" => Ok(Command::Text),
             "dump" => {
                 Ok(Command::Dump { shown: self.named(&Shown::ALL)?, offset: self.number()?, length: self.number()? })
             }

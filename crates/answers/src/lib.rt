@@ -95,7 +95,7 @@ pub fn put_count(s: &mut [u8], at: usize, n: u64)
 }
 
 // The size of the load that a stored number stands for.
-fn size_of(code: u32) -> u64
+pub fn size_of(code: u32) -> u64
     ensures { λ r. ⌜ r ≡ cond (ltb code 50001) (50001 - code) (code - 50001) ⌝ }
 {
     if code < CODE_OF_ZERO {

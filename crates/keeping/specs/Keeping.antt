@@ -22,6 +22,14 @@ pub record Counted : Type 0 where
   pub world : World
   pub counts : List ℕ
 
+-- a store, and the counts beside its state
+pub record Store : Type 0 where
+  pub world : World
+  pub counts : List ℕ
+
+abbrev pub store : World → List ℕ → Store
+store w counts = record { world = w; counts = counts }
+
 abbrev pub counted : ℕ → List ℕ → List ℕ → State → List ℕ → Counted
 counted number nand nor s counts = record { number = number; world = world nand nor s; counts = counts }
 

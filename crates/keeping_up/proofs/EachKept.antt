@@ -20,7 +20,7 @@ use Rattle.store.specs.World.{World}
 use Rattle.store.specs.Calls.{Outcome, roomWorld, dropOutcome, appendOutcome}
 use Rattle.counts.specs.Counts.{countsBroken, oneMore}
 use Rattle.counts.proofs.CountsDown.{one-more}
-use Rattle.keeping.specs.Keeping.{Counted, withGround, isLost, keptOr, keeping, countsDropped, dropKept}
+use Rattle.keeping.specs.Keeping.{Store, Counted, withGround, isLost, keptOr, keeping, countsDropped, dropKept}
 use Rattle.keeping.proofs.Numbers.{with-later}
 use Rattle.keeping.specs.Keeping.{withLift, countsShed, countsAppended, appendKept}
 use Rattle.paper_log.specs.Log.{Lift, Log, openSerial, codes, retained, isFull, dropLog, putLog, appendLog}
@@ -36,7 +36,7 @@ use Rattle.refinement.proofs.Append.{roomHistory, shedHistory, append-log, plan
 use Rattle.refinement.proofs.Entry.{planIn}
 use Rattle.refinement.proofs.Steps as Steps
 use Rattle.refinement.proofs.TallyHeld.{held-most}
-use Rattle.keeping_up.specs.KeptRun.{Store, keptReply, keptAfter}
+use Rattle.keeping_up.specs.KeptRun.{keptReply, keptAfter}
 use Rattle.keeping_up.proofs.RetainedLifts.{either-way, close-keeps, put-last}
 use Rattle.keeping_up.proofs.Dropping.{counts-dropped}
 

@@ -14,7 +14,7 @@ use Rattle.tally.specs.Answers.{TallyAnswer}
 use Rattle.store.specs.World.{World}
 use Rattle.store.specs.Calls.{formatOutcome}
 use Rattle.questions.specs.Queries.{tallyOutcome}
-use Rattle.keeping.specs.Keeping.{formatKept}
+use Rattle.keeping.specs.Keeping.{Store, formatKept}
 use Rattle.paper_log.specs.Log.{Log, begun, codes, retained, joined}
 use Rattle.paper_log.specs.Calls as Paper
 use Rattle.refinement.specs.Inner.Image.{image}
@@ -24,7 +24,7 @@ use Rattle.refinement.proofs.Demands as Demands
 use Rattle.round_trips.specs.Reaches.{Chips, Reaches, formatted, called}
 use Rattle.round_trips.proofs.Known.{Known, known}
 use Rattle.round_trips.proofs.RoundTrips.{goes-on-as-paper-log}
-use Rattle.keeping_up.specs.KeptRun.{Store, keptReply, keptAfter, keptReplies, keptRun, appended, dropped}
+use Rattle.keeping_up.specs.KeptRun.{keptReply, keptAfter, keptReplies, keptRun, appended, dropped}
 use Rattle.keeping_up.proofs.RetainedLifts.{log-count}
 use Rattle.keeping_up.proofs.EachKept.{countsHeld, beside, held-total, kept-reply, kept-after}
 

@@ -5,16 +5,10 @@ use mathlib.Core.List.{List, [], _∷_}
 use Prim.Native.Nat.{ℕ, _+_}
 use lib.Dec.{eqb, leb}
 use lib.ListN.{length}
-use Rattle.store.specs.World.{World}
 use Rattle.paper_log.specs.Log.{Lift, Log, roomLog}
 use Rattle.paper_log.specs.Calls as Paper
 use Rattle.refinement.specs.Run.{Request, append, close, drop, search, Reply, plain, reply, worldAfter}
-use Rattle.keeping.specs.Keeping.{appendKept, dropKept}
-
--- a store, and the counts beside its state
-pub record Store : Type 0 where
-  pub world : World
-  pub counts : List ℕ
+use Rattle.keeping.specs.Keeping.{Store, appendKept, dropKept}
 
 -- the reply to a call, and the store after it; a close neither reads nor changes counts
 unfoldable pub keptReply : Store → Request → Reply

@@ -15,7 +15,7 @@ pub const SPACE: u8 = 32;
 
 pub const ZERO: u8 = 48;
 
-const NINE: u8 = 57;
+pub const NINE: u8 = 57;
 // The byte that ends a line.
 pub const LINE_FEED: u8 = 10;
 // "times in 15 columns and loads in 8"

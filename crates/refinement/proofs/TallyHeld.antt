@@ -54,7 +54,7 @@ among-most t1 t2 k1 k2 (l ∷ ls) = go (wanted t1 t2 k1 k2 l) (among-most t1 t2 
     go true r = omega arith
     go false r = omega arith
 
-found-held : (h : History) → Good h → (t1 t2 : ℕ) (k1 k2 : ℤ) → length (found (h .log) t1 t2 k1 k2) ≤ h .log .slots * 320
+pub found-held : (h : History) → Good h → (t1 t2 : ℕ) (k1 k2 : ℤ) → length (found (h .log) t1 t2 k1 k2) ≤ h .log .slots * 320
 unfolding found
 found-held h g t1 t2 k1 k2 = omega (arith, held-most h g, among-most t1 t2 k1 k2 (retained (h .log)))
 

@@ -1,5 +1,1 @@
-pub mod Leaves
-pub mod Appended
-pub mod GoingOn
-pub mod KeptCounts
-pub mod ShedAreas
+pub mod TextLeft

@@ -3,7 +3,7 @@ use crate::AREA_LENGTH;
 use kept::NUMBER_BYTES;
 use kept::TOLERANT_BYTES;
 ghost use mathlib.Core.Path.{_≡_};
-ghost use Rattle.store_abi.specs.Areas.{replied, pairsCalled, repliedBoth, tolerantCalled};
+ghost use Rattle.areas.specs.Areas.{replied, pairsCalled, repliedBoth, tolerantCalled};
 
 // The pairs of two stores (W-208).
 #[no_mangle]

@@ -63,9 +63,7 @@ impl Input {
         self.bytes.extend_from_slice(text);
         self.bytes.push(b'\n');
         for asked in lines_of(text).filter_map(asked) {
-            if let Ok(said) = self.log.call(&asked.call) {
-                turns.count(&asked.call, &said);
-            }
+            turns.count(&asked.call, &self.log.call(&asked.call));
         }
     }
 

@@ -6,6 +6,7 @@ use super::counts::kept_counts;
 use super::pairs::pair_up;
 use super::search::{find, load_of, Found, PagesRead};
 use super::state::State;
+use super::text::{export, import_text};
 use super::tolerant::search_with_tolerance;
 use super::work::{put_state, Work};
 use crate::counts::Counts;
@@ -21,7 +22,7 @@ use script::form::Form;
 const NOR_BYTES: usize = 6_144;
 
 /// Answers any call on any areas as document 01 says, in form 1 as W-202, W-206, W-207 and W-210 amend it, and the calls of
-/// W-203, W-208 and W-209.
+/// W-203, W-208, W-209 and W-211.
 pub struct Expectation;
 
 impl Store for Expectation {
@@ -37,6 +38,8 @@ impl Store for Expectation {
             Call::Tally { slots, t1, t2 } => tally(form, areas, slots, t1, t2, outputs),
             Call::Page { slots, t1, t2 } => page(form, areas, slots, t1, t2, outputs),
             Call::Plate { place, load } => plate(place, load, outputs),
+            Call::Export { slots, ref window, .. } => export(areas, slots, window, outputs),
+            Call::Import { keeps, slots, ref text } => import_text(areas, keeps, slots, text, outputs),
         };
         result.err().unwrap_or(0)
     }
@@ -95,7 +98,7 @@ fn format(form: Form, areas: &mut Areas, slots: u64) -> Outcome<()> {
     Ok(())
 }
 
-fn append(form: Form, areas: &mut Areas, keeps: bool, slots: u64, lift: &Lift) -> Outcome<()> {
+pub fn append(form: Form, areas: &mut Areas, keeps: bool, slots: u64, lift: &Lift) -> Outcome<()> {
     let state = checked_state(form, areas, slots)?;
     let counts = kept_counts(keeps, areas)?;
     refuse_if(time_past_limit(lift.time), TIME_LIMIT)?;

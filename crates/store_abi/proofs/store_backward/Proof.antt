@@ -2,8 +2,8 @@
 use mathlib.Core.Path.{ap, _∙_}
 use lib.ListN.{length}
 use Rattle.conversion.specs.Outcome.{backwardOutcome}
-use Rattle.store_abi.specs.Areas.{oldBytes, backwardCalled}
-use Rattle.store_abi.proofs.Leaves.{first-wrong, second-wrong, both-equal, unfitting, fitting}
+use Rattle.areas.specs.Areas.{oldBytes, backwardCalled}
+use Rattle.areas.proofs.Leaves.{first-wrong, second-wrong, both-equal, unfitting, fitting}
 use borrow.Author.Needs.{needs}
 use Rattle.store_abi.proofs.store_backward.Statement.{statement}
 use Rattle.store_abi.proofs.store_backward.Tie as tie

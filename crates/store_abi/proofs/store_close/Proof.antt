@@ -2,8 +2,8 @@
 use mathlib.Core.Path.{ap, _∙_}
 use Rattle.store.specs.World.{world}
 use Rattle.store.specs.Calls.{closeOutcome}
-use Rattle.store_abi.specs.Areas.{closeCalled}
-use Rattle.store_abi.proofs.Leaves.{wrong-length, right-length}
+use Rattle.areas.specs.Areas.{closeCalled}
+use Rattle.areas.proofs.Leaves.{wrong-length, right-length}
 use borrow.Author.Needs.{needs}
 use Rattle.store_abi.proofs.store_close.Statement.{statement}
 use Rattle.store_abi.proofs.store_close.Tie as tie

@@ -2,8 +2,8 @@
 use mathlib.Core.Path.{ap, _∙_}
 use Rattle.store.specs.World.{world}
 use Rattle.store.specs.Calls.{dropOutcome}
-use Rattle.store_abi.specs.Areas.{dropCalled}
-use Rattle.store_abi.proofs.Leaves.{wrong-length, right-length}
+use Rattle.areas.specs.Areas.{dropCalled}
+use Rattle.areas.proofs.Leaves.{wrong-length, right-length}
 use borrow.Author.Needs.{needs}
 use Rattle.store_abi.proofs.store_drop.Statement.{statement}
 use Rattle.store_abi.proofs.store_drop.Tie as tie

@@ -1,6 +1,6 @@
 -- `store_abi::store_format` meets its contract: the store's call on the state that the area holds.
-use Rattle.store_abi.specs.Areas.{formatCalled}
-use Rattle.store_abi.proofs.Leaves.{wrong-length, right-length}
+use Rattle.areas.specs.Areas.{formatCalled}
+use Rattle.areas.proofs.Leaves.{wrong-length, right-length}
 use borrow.Author.Needs.{needs}
 use Rattle.store_abi.proofs.store_format.Statement.{statement}
 use Rattle.store_abi.proofs.store_format.Tie as tie

@@ -2,8 +2,8 @@
 use mathlib.Core.Path.{_∙_}
 use Rattle.service_page.specs.Page.{pageOf}
 use Rattle.questions.proofs.TallyMost.{counts-fit}
-use Rattle.store_abi.specs.Areas.{pageCalled}
-use Rattle.store_abi.proofs.Leaves.{state-wrong, answer-wrong, both-right, tally-left}
+use Rattle.areas.specs.Areas.{pageCalled}
+use Rattle.areas.proofs.Leaves.{state-wrong, answer-wrong, both-right, tally-left}
 use native.Mathlib.Omega.{arith}
 use borrow.Author.Needs.{needs}
 use Rattle.store_abi.proofs.store_page.Statement.{statement}

@@ -3,8 +3,8 @@ use mathlib.Core.Path.{ap, _∙_}
 use mir.Syntax.{w32}
 use mir.ValLaws.{toZ-ofZ}
 use Rattle.plate.specs.Carried.{lookup}
-use Rattle.store_abi.specs.Areas.{plateCalled}
-use Rattle.store_abi.proofs.Leaves.{one-wrong, one-right, plate-left}
+use Rattle.areas.specs.Areas.{plateCalled}
+use Rattle.areas.proofs.Leaves.{one-wrong, one-right, plate-left}
 use borrow.Author.Needs.{needs}
 use Rattle.store_abi.proofs.store_plate.Statement.{statement}
 use Rattle.store_abi.proofs.store_plate.Tie as tie

@@ -9,8 +9,8 @@ use Rattle.store.specs.World.{world}
 use Rattle.questions.specs.Queries.{searchOutcome}
 use Rattle.questions.proofs.Asked.{log-sound}
 use Rattle.state_bytes.specs.StateBytes.{stateIn}
-use Rattle.store_abi.specs.Areas.{searchCalled}
-use Rattle.store_abi.proofs.Leaves.{page-size, state-wrong, answer-wrong, both-right, search-left}
+use Rattle.areas.specs.Areas.{searchCalled}
+use Rattle.areas.proofs.Leaves.{page-size, state-wrong, answer-wrong, both-right, search-left}
 use borrow.Author.Needs.{needs}
 use Rattle.store_abi.proofs.store_search.Statement.{statement}
 use Rattle.store_abi.proofs.store_search.Tie as tie

@@ -2,8 +2,8 @@
 use mathlib.Core.Path.{_∙_}
 use Rattle.codec.specs.Number.{bytes}
 use Rattle.loads.specs.Signed.{sideBySide}
-use Rattle.store_abi.specs.Areas.{tallyCalled}
-use Rattle.store_abi.proofs.Leaves.{state-wrong, answer-wrong, both-right, tally-left}
+use Rattle.areas.specs.Areas.{tallyCalled}
+use Rattle.areas.proofs.Leaves.{state-wrong, answer-wrong, both-right, tally-left}
 use borrow.Author.Needs.{needs}
 use Rattle.store_abi.proofs.store_tally.Statement.{statement}
 use Rattle.store_abi.proofs.store_tally.Tie as tie

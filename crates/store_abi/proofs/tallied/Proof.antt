@@ -3,7 +3,7 @@ use mathlib.Core.Path.{ap, _∙_}
 use lib.ListN.{length}
 use Rattle.questions.proofs.Asked.{log-sound}
 use Rattle.state_bytes.specs.StateBytes.{stateIn}
-use Rattle.store_abi.proofs.Leaves.{page-size}
+use Rattle.areas.proofs.Leaves.{page-size}
 use borrow.Author.Needs.{needs}
 use Rattle.store_abi.proofs.tallied.Statement.{statement}
 use Rattle.store_abi.proofs.tallied.Tie as tie

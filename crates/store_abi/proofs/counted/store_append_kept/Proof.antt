@@ -1,26 +1,13 @@
--- `store_abi::counted::store_append_kept` meets its contract: refused by a ground from 1 to 8 or by 3 of the counts, else it goes on.
-use mathlib.Core.Path.{_≡_, sym, ap, _∙_}
-use mathlib.Core.Bool.{Bool}
+-- `store_abi::counted::store_append_kept` meets its contract: the append of a state and counts in areas of their lengths.
+use mathlib.Core.Path.{ap, _∙_}
 use lib.IntN.{ℤ}
-use lib.ListN.{length}
 use mir.Syntax.{w32}
-use mir.Val.{toZ, ofZ}
 use mir.ValLaws.{toZ-ofZ}
-use Rattle.counts.specs.Counts.{countsBroken}
-use Rattle.counts.specs.CountsBytes.{countsIn}
-use Rattle.store.specs.Inner.Pieces.{entryGround}
-use Rattle.keeping.specs.Keeping.{withGround}
-use Rattle.keeping.proofs.Appends.{append-early, passed}
-use Rattle.state_bytes.specs.StateBytes.{stateIn}
-use Rattle.store_abi.specs.Areas.{appendKeptCalled}
-use Rattle.store_abi.proofs.KeptCounts.{wrong-state, wrong-counts, refused-kept}
-use native.Mathlib.Omega.{arith}
+use Rattle.areas.specs.Areas.{appendKeptCalled}
+use Rattle.areas.proofs.KeptCounts.{wrong-state, wrong-counts}
 use borrow.Author.Needs.{needs}
 use Rattle.store_abi.proofs.counted.store_append_kept.Statement.{statement}
 use Rattle.store_abi.proofs.counted.store_append_kept.Tie as tie
-
-load-is : (c : tie.Start) → toZ w32 (ofZ w32 (c .args .load)) ≡ c .args .load
-load-is c = toZ-ofZ w32 (c .args .load) (c .fits .load)
 
 returns : tie.Need-returns
 unfolding appendKeptCalled
@@ -30,28 +17,15 @@ returns-2 : tie.Need-returns-2
 unfolding appendKeptCalled
 returns-2 c = wrong-counts _ _ _ _ _ ((c .before) .if1 .left) (c .if2 .taken)
 
-lift-ground-requires : tie.Need-lift-ground-requires
-lift-ground-requires c κs = search needs
+append-requires : tie.Need-append-requires
+append-requires c κs = ((c .before .before .before .before .before) .if1 .left, (c .before .before .before .before) .if2 .left)
 
-are-broken-requires : tie.Need-are-broken-requires
-are-broken-requires c κs = search needs
-
-with-ground-3-requires : tie.Need-with-ground-3-requires
-with-ground-3-requires c κs = search needs
-
--- what is judged, of the load itself
-judged : (c : tie.After-lift-ground) → let a = (c .before .before .before .before .before .before .before .before) .args in
-    c .lift-ground .result ≡ entryGround (stateIn (a .state .now)) (length (a .nand .now)) (length (a .nor .now)) (a .slots) (a .time) (a .load)
-judged c =
-    let d = (c .before .before .before .before .before .before .before .before) in
-    let a = d .args in
-    c .lift-ground .ensures
-    ∙ ap (λ (z : ℤ). entryGround (stateIn (a .state .now)) (length (a .nand .now)) (length (a .nor .now)) (a .slots) (a .time) z) (load-is d)
-
-number : (c : tie.After-with-ground-3) → let a = (c .before .before .before .before .before .before .before .before .before .before .before) .args in
-    c .with-ground-3 .result ≡ withGround 3 (countsBroken (countsIn (a .counts .now))) ((c .before .before .before) .lift-ground .result)
-number c =
-    c .with-ground-3 .ensures ∙ ap (λ (t : Bool). withGround 3 t ((c .before .before .before) .lift-ground .result)) ((c .before) .are-broken .ensures)
+returns-3 : tie.Need-returns-3
+returns-3 c =
+    let a = (c .before .before .before .before .before .before .before .before .before .before .before .before .before .before .before .before .before .before .before) .args in
+    (c .before .before .before .before .before .before .before .before) .append .ensures
+    ∙ ap (λ (z : ℤ). appendKeptCalled (a .state .now) (a .counts .now) (a .nand .now) (a .nor .now) (a .slots) (a .time) z (a .note .now))
+    (toZ-ofZ w32 (a .load) ((c .before .before .before .before .before .before .before .before .before .before .before .before .before .before .before .before .before .before .before) .fits .load))
 
 same-length : tie.Need-same-length
 same-length c = search needs
@@ -59,48 +33,11 @@ same-length c = search needs
 same-length-2 : tie.Need-same-length-2
 same-length-2 c = search needs
 
-returns-3 : tie.Need-returns-3
-unfolding appendKeptCalled
-returns-3 c =
-    let g = (c .before .before .before .before) in
-    let a = (c .before .before .before .before .before .before .before .before .before .before .before .before) .args in
-    refused-kept (a .state .now) (a .counts .now) (a .nand .now) (a .nor .now) _ ((c .before .before .before .before .before .before .before) .if1 .left) ((c .before .before .before .before .before .before) .if2 .left) _ (c .if3 .taken)
-    (append-early (a .nand .now) (a .nor .now) (stateIn (a .state .now)) (a .slots) (a .time) (a .load) (a .note .now) (countsIn (a .counts .now)) _
-    (judged g) _ (number (c .before)) (c .if3 .taken))
-
-append-counted-requires : tie.Need-append-counted-requires
-append-counted-requires c κs =
-    let g = (c .before .before .before .before .before .before .before .before .before) in
-    let d = (c .before .before .before .before .before .before .before .before .before .before .before .before .before .before .before .before .before) in
-    let a = d .args in
-    let t = passed (a .nand .now) (a .nor .now) (stateIn (a .state .now)) (a .slots) (a .time) (a .load) (a .note .now) (countsIn (a .counts .now)) _
-    (judged g) _ (number (c .before .before .before .before .before .before)) (omega (arith, (c .before .before .before .before .before) .if3 .left)) in
-    record {
-      size = (c .before .before .before .before .before .before .before .before .before .before .before .before) .if1 .left;
-      counts-size = (c .before .before .before .before .before .before .before .before .before .before .before) .if2 .left;
-      entered = ap (λ (z : ℤ). entryGround (stateIn (a .state .now)) (length (a .nand .now)) (length (a .nor .now)) (a .slots) (a .time) z)
-          (load-is d) ∙ sym (judged g) ∙ t .1;
-      unbroken = t .0;
-    }
-
 same-length-3 : tie.Need-same-length-3
 same-length-3 c = search needs
 
 same-length-4 : tie.Need-same-length-4
 same-length-4 c = search needs
-
-same-length-5 : tie.Need-same-length-5
-same-length-5 c = search needs
-
-same-length-6 : tie.Need-same-length-6
-same-length-6 c = search needs
-
-returns-4 : tie.Need-returns-4
-returns-4 c =
-    let d = (c .before .before .before .before .before .before .before .before .before .before .before .before .before .before .before .before .before .before .before .before .before .before .before .before .before .before) in
-    let a = d .args in
-    (c .before .before .before .before .before .before .before .before) .append-counted .ensures
-    ∙ ap (λ (z : ℤ). appendKeptCalled (a .state .now) (a .counts .now) (a .nand .now) (a .nor .now) (a .slots) (a .time) z (a .note .now)) (load-is d)
 
 pub store-append-kept-spec : {M : Type 1} → statement M
 store-append-kept-spec =
@@ -108,15 +45,9 @@ store-append-kept-spec =
     (tie.spec
     returns
     returns-2
-    lift-ground-requires
-    are-broken-requires
-    with-ground-3-requires
+    append-requires
     same-length
     same-length-2
-    returns-3
-    append-counted-requires
     same-length-3
     same-length-4
-    same-length-5
-    same-length-6
-    returns-4)
+    returns-3)

@@ -2,8 +2,8 @@
 use mathlib.Core.Path.{ap₂, _∙_}
 use Rattle.store.specs.World.{world}
 use Rattle.keeping.specs.Keeping.{Counted, dropKept}
-use Rattle.store_abi.specs.Areas.{dropKeptCalled}
-use Rattle.store_abi.proofs.KeptCounts.{wrong-state, wrong-counts, given-kept}
+use Rattle.areas.specs.Areas.{dropKeptCalled}
+use Rattle.areas.proofs.KeptCounts.{wrong-state, wrong-counts, given-kept}
 use borrow.Author.Needs.{needs}
 use Rattle.store_abi.proofs.counted.store_drop_kept.Statement.{statement}
 use Rattle.store_abi.proofs.counted.store_drop_kept.Tie as tie

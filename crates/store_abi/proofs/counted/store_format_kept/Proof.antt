@@ -1,6 +1,6 @@
 -- `store_abi::counted::store_format_kept` meets its contract: the call by value, kept in the areas.
-use Rattle.store_abi.specs.Areas.{formatKeptCalled}
-use Rattle.store_abi.proofs.KeptCounts.{wrong-state, wrong-counts, given-kept}
+use Rattle.areas.specs.Areas.{formatKeptCalled}
+use Rattle.areas.proofs.KeptCounts.{wrong-state, wrong-counts, given-kept}
 use borrow.Author.Needs.{needs}
 use Rattle.store_abi.proofs.counted.store_format_kept.Statement.{statement}
 use Rattle.store_abi.proofs.counted.store_format_kept.Tie as tie

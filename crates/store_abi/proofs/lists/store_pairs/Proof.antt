@@ -3,8 +3,8 @@ use mathlib.Core.Path.{ap, _∙_}
 use lib.ListN.{length}
 use Rattle.questions.proofs.Asked.{log-sound, slots-most}
 use Rattle.state_bytes.specs.StateBytes.{stateIn}
-use Rattle.store_abi.specs.Areas.{pairsCalled}
-use Rattle.store_abi.proofs.Leaves.{page-size, one-wrong, one-right, state-wrong, answer-wrong, both-right, pairs-left}
+use Rattle.areas.specs.Areas.{pairsCalled}
+use Rattle.areas.proofs.Leaves.{page-size, one-wrong, one-right, state-wrong, answer-wrong, both-right, pairs-left}
 use borrow.Author.Needs.{needs}
 use Rattle.store_abi.proofs.lists.store_pairs.Statement.{statement}
 use Rattle.store_abi.proofs.lists.store_pairs.Tie as tie

@@ -10,8 +10,8 @@ use Rattle.questions.proofs.Asked.{log-sound}
 use Rattle.state_bytes.specs.StateBytes.{stateIn}
 use Rattle.tolerant.specs.Answers.{TolerantAnswer}
 use Rattle.tolerant.specs.Call.{tolerantOutcome}
-use Rattle.store_abi.specs.Areas.{tolerantCalled}
-use Rattle.store_abi.proofs.Leaves.{page-size, state-wrong, answer-wrong, both-right, tolerant-left}
+use Rattle.areas.specs.Areas.{tolerantCalled}
+use Rattle.areas.proofs.Leaves.{page-size, state-wrong, answer-wrong, both-right, tolerant-left}
 use borrow.Author.Needs.{needs}
 use Rattle.store_abi.proofs.lists.store_tolerant.Statement.{statement}
 use Rattle.store_abi.proofs.lists.store_tolerant.Tie as tie

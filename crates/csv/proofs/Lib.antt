@@ -1,0 +1,11 @@
+pub mod Digits
+pub mod Places
+pub mod Headings
+pub mod Loads
+pub mod FieldRead
+pub mod Cutting
+pub mod Forms
+pub mod Records
+pub mod LineRead
+pub mod ReadBack
+pub mod Examples

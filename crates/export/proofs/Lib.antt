@@ -1,0 +1,3 @@
+pub mod Sizing
+pub mod Writing
+pub mod Answered

@@ -1,0 +1,2 @@
+pub mod Folding
+pub mod Appends

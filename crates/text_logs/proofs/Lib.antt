@@ -1,0 +1,12 @@
+pub mod Folds
+pub mod Imports
+pub mod Rows
+pub mod TextLogs
+pub mod AllActs
+pub mod Told
+pub mod InOrder
+pub mod Feeding
+pub mod Fed
+pub mod ThereAndBack
+pub mod Undamaged
+pub mod Spreadsheet

@@ -1,0 +1,2 @@
+pub mod TextLog
+pub mod Acts
