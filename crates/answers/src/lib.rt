@@ -1,4 +1,6 @@
 // The answers of `slotlist` (document 01, "Program"): numbers, lifts and counts laid out in columns.
+#![tactic(auto)]
+
 ghost use Rattle.std.specs.Prelude.{◌≡◌, cond, ◌+◌, ◌-◌, ◌≤◌, ltb, length};
 ghost use Rattle.codec.specs.Area.{splice};
 ghost use Rattle.lift.specs.Limits.{load_of};
@@ -17,7 +19,7 @@ const COUNT_COLUMNS: usize = 7;
 const HEAD_BYTES: usize = 4;
 
 // What is left to write of a number, from its last column: whether a digit is due, and whether a minus still is.
-#[derive(Drop)]
+#[derive(Clone, Copy)]
 pub struct Pen {
     pub rest: u64,
     pub digit: bool,

@@ -1,4 +1,6 @@
 // The parts of an append that need no state: what its plan says, and the buffers after a lift (document 01, "Segments", "State").
+#![tactic(auto)]
+
 ghost use Rattle.std.specs.Prelude.{◌≡◌, cond, not, ◌&&◌, ◌||◌, ◌+◌, ◌-◌, ◌*◌, ◌/◌, ◌%◌, ◌≤◌, eqb, leb, length};
 ghost use Rattle.lift.specs.Record.{record_bytes, record_width};
 ghost use Rattle.lift.specs.Rows.{lifts_most};

@@ -1,4 +1,6 @@
 // Append over byte areas (`areas`): a lift goes straight into the area of the state where it can.
+#![tactic(auto)]
+
 pub mod counted;
 
 ghost use Rattle.std.specs.Prelude.{◌≡◌, true, length};

@@ -1,4 +1,6 @@
 // Import over byte areas (`areas`): each record of a lent text is appended in turn; a bad record or a refused append ends it.
+#![tactic(auto)]
+
 pub mod counted;
 
 ghost use Rattle.std.specs.Prelude.{◌≡◌, ◌≤◌, length, drop};
@@ -15,7 +17,7 @@ use import::pieces;
 use import::pieces::BAD_FORM;
 
 // The number, and the line that ended the import, 0 if all went in.
-#[derive(Drop)]
+#[derive(Clone, Copy)]
 pub struct Ended {
     pub number: u8,
     pub line: u64,

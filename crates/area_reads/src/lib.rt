@@ -1,5 +1,7 @@
 // What a call needs of a state's area (document 01, "State", "Twelve grounds"), read where it stands: the grounds, an append's fields, a
 // search's log. The buffers are not copied.
+#![tactic(auto)]
+
 ghost use Rattle.std.specs.Prelude.{◌≡◌, length};
 ghost use Rattle.bounds.specs.Bounds.{loads_ok};
 ghost use Rattle.form.specs.declared.Form.TheVariants.{New};

@@ -1,4 +1,6 @@
 // The matches of one segment: a set of 320 bits, emptied from the lowest bit up.
+#![tactic(auto)]
+
 ghost use Rattle.std.specs.Prelude.{◌≡◌, true, cond, ◌+◌, ◌-◌, ◌^◌, ◌<◌, ◌≤◌, length};
 ghost use Rattle.std.specs.Int.Bits.{bit_or};
 ghost use Rattle.std.specs.Int.Count.{count_trailing_zeros};
@@ -7,13 +9,13 @@ ghost use Rattle.bitset.specs.Inner.Words.{has, empty_words, insert_in, without,
 ghost use Rattle.bitset.specs.Inner.Emptying.{next_of};
 
 // Places 0 to 319: place p is bit p mod 64 of word p div 64.
-#[derive(Drop)]
+#[derive(Clone, Copy)]
 pub struct Bits {
     pub words: [u64; 5],
 }
 
 // What emptying from the lowest bit finds.
-#[derive(Drop)]
+#[derive(Clone, Copy)]
 pub struct Next {
     pub found: bool,
     pub at: usize,

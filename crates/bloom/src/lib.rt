@@ -1,4 +1,6 @@
 // Bloom sections of 1,024 bits, and the two Bloom pages (document 01, "Bloom and skip list").
+#![tactic(auto)]
+
 ghost use Rattle.std.specs.Prelude.{◌≡◌, [], ◌∷◌, ◌+◌, ◌*◌, ◌-◌, ◌^◌, ◌%◌, ◌/◌, ◌<◌, ◌≤◌, min, length, get_or};
 ghost use Rattle.codec.specs.Area.{part, splice};
 ghost use Rattle.flash.specs.Chip.{nor_width};
@@ -15,7 +17,7 @@ pub const SECTION_BYTES: usize = 128;
 pub const LIFTS_PER_SECTION: usize = 64;
 
 // Whether a load may be in a segment, and how many of its Bloom pages hold a bit that was tried.
-#[derive(Drop)]
+#[derive(Clone, Copy)]
 pub struct Tried {
     pub held: bool,
     pub pages: u8,

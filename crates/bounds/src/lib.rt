@@ -1,5 +1,7 @@
 // Grounds 1 to 8 and the bounds of the state, on plain numbers; the last loads, low and high after a lift (document 01, "Twelve
 // grounds", "State").
+#![tactic(auto)]
+
 ghost use Rattle.std.specs.Prelude.{◌≡◌, true, map};
 ghost use Rattle.lift.specs.Limits as Limits;
 ghost use Rattle.form.specs.declared.Form.TheVariants.{Old, New};

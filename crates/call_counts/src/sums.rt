@@ -33,7 +33,7 @@ pub const GROUND_ZERO: u32 = 13;
 
 pub const GROUNDS: u32 = 12;
 
-#[derive(Drop)]
+#[derive(Clone, Copy)]
 pub struct Sums {
     pub n: [u64; SUMS],
 }

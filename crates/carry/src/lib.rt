@@ -1,4 +1,6 @@
 // What is carried into the other form (document 02, W-203): pointers, headers, slots and the state.
+#![tactic(auto)]
+
 ghost use Rattle.std.specs.Prelude.{◌≡◌, [], ◌++◌, ℕ, ◌+◌, ◌-◌, ◌*◌, ◌/◌, ◌^◌, ◌≤◌, length};
 ghost use Rattle.codec.specs.Area.{part, splice};
 ghost use Rattle.flash.specs.Chip.{slot_of, page_width, slot_width};
@@ -19,7 +21,7 @@ const KEPT_BYTES: usize = 15872;
 const POINTERS_AT: usize = 40;
 
 // S, and the serials that are retained as closed: from `oldest` to the one before `current`, the open serial.
-#[derive(Drop)]
+#[derive(Clone, Copy)]
 pub struct Serials {
     pub slots: u64,
     pub oldest: u32,

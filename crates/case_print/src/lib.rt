@@ -1,4 +1,6 @@
 // What `store_cases` prints: a call's answer, the state, hashes of areas.
+#![tactic(auto)]
+
 pub mod digest;
 
 use plate::PLATES;
@@ -9,7 +11,7 @@ const STDOUT: i32 = 1;
 const HEX_DIGITS: usize = 16;
 
 // The store's state, how much of the chips the calls are lent, and what the last call answered.
-#[derive(Drop)]
+#[derive(Clone, Copy)]
 pub struct Trial {
     pub state: State,
     pub slots: u64,

@@ -1,4 +1,6 @@
 // Little-endian numbers and runs of bytes in a byte area (document 01, "Chips and slots").
+#![tactic(auto)]
+
 ghost use Rattle.std.specs.Prelude.{◌≡◌, ◌+◌, ◌≤◌, ◌<◌, ◌^◌, length};
 ghost use Rattle.codec.specs.Area.{part, splice, repeated, all_ones};
 ghost use Rattle.codec.specs.Number.{bytes, number_at};

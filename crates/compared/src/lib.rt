@@ -1,4 +1,6 @@
 // One call on the store and on the list, and what they answer compared.
+#![tactic(auto)]
+
 use dice::answers::Listed;
 use dice::calls::Call;
 use dice::{answers, calls};
@@ -15,14 +17,14 @@ const NOTE_AT: usize = 12;
 // Eight serials of 320 lifts.
 const AREA_BYTES: usize = 81920;
 
-#[derive(Drop)]
+#[derive(Clone, Copy)]
 pub struct Pair {
     pub state: State,
     pub log: PlainLog,
 }
 
 // Store and list after a call; the list's number for it and the store's; whether all else agrees; the rows that a search found.
-#[derive(Drop)]
+#[derive(Clone, Copy)]
 pub struct Done {
     pub pair: Pair,
     pub expected: u8,

@@ -1,4 +1,6 @@
 // A store of one form carried into a second lent store of the other (document 02, W-203): there, from form 0 to form 1, and back.
+#![tactic(auto)]
+
 ghost use Rattle.std.specs.Prelude.{◌≡◌, true, [], ◌*◌, ◌≤◌, length};
 ghost use Rattle.flash.specs.Chip.{slot_width};
 ghost use Rattle.form.specs.declared.Form.TheVariants.{Old};
@@ -14,7 +16,7 @@ use retained::headers::Sought;
 use store::{Answer, OldState, State};
 
 // A call's number, and the second store's state in form 0.
-#[derive(Drop)]
+#[derive(Clone, Copy)]
 pub struct OldAnswer {
     pub number: u8,
     pub state: OldState,

@@ -1,4 +1,6 @@
 // The counts that are kept beside the state (document 02, W-210): ground 3 of them, a lift more, a segment less.
+#![tactic(auto)]
+
 pub mod area;
 
 ghost use Rattle.std.specs.Prelude.{◌≡◌, ◌+◌, ◌*◌, ◌≤◌, length};
@@ -20,7 +22,7 @@ use plate::PLATES;
 pub const SUM_MOST: u32 = 1310720;
 
 // The counts after a count down; `good` where no damage was met.
-#[derive(Drop)]
+#[derive(Clone, Copy)]
 pub struct Down {
     pub good: bool,
     pub counts: [u32; PLATES],

@@ -1,4 +1,6 @@
 // Comma-separated files (document 02, W-211; RFC 4180): the header and the lines of a lent text, read from a place on without going back.
+#![tactic(auto)]
+
 ghost use Rattle.std.specs.Prelude.{◌≡◌, true, false, cond, min, ◌+◌, ◌-◌, ◌^◌, ◌≤◌, ◌<◌, eqb, pos, length, get_or, drop};
 ghost use Rattle.std.proofs.Math.IntN.{sub_ℕ};
 ghost use Rattle.csv.specs.Inner.Descent.{RunRead, FieldRead, EndPassed, Begins, bit, ends};
@@ -16,14 +18,14 @@ const MEMBER_MOST: u64 = 4294967295;
 const HEADING_BYTES: usize = 16;
 
 // Whether the header is there, and where the next line begins.
-#[derive(Drop)]
+#[derive(Clone, Copy)]
 pub struct Heading {
     pub good: bool,
     pub next: usize,
 }
 
 // A line: whether it is a record, what it tells, and where the next line begins.
-#[derive(Drop)]
+#[derive(Clone, Copy)]
 pub struct Line {
     pub good: bool,
     pub time: u64,
@@ -33,14 +35,14 @@ pub struct Line {
 }
 
 // Digits: their number, and where they end.
-#[derive(Drop)]
+#[derive(Clone, Copy)]
 struct Run {
     value: u64,
     end: usize,
 }
 
 // A field, and where it ends.
-#[derive(Drop)]
+#[derive(Clone, Copy)]
 struct Field {
     good: bool,
     minus: bool,

@@ -1,5 +1,7 @@
 // What a line of `slotlist` does (document 01, "Program"), with nothing read and nothing printed: the calls of a store of two slots,
 // and the line so far.
+#![tactic(auto)]
+
 ghost use Rattle.std.specs.Prelude.{◌≡◌, ◌*◌, ◌≤◌, length, take};
 ghost use Rattle.lift.specs.Record.{record_width};
 ghost use Rattle.store.specs.World.{world};
@@ -20,7 +22,7 @@ pub const RESULT_BYTES: usize = 320 * lift::RECORD_BYTES;
 const LINE_BYTES: usize = 48;
 
 // The state, and the line so far.
-#[derive(Drop)]
+#[derive(Clone, Copy)]
 pub struct Reader {
     pub state: State,
     pub line: [u8; LINE_BYTES],

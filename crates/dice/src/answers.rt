@@ -8,7 +8,7 @@ const ROW_BYTES: usize = 32;
 const TOO_SMALL: u8 = 12;
 
 // The number, and the list, which a refused call leaves as it was.
-#[derive(Drop)]
+#[derive(Clone, Copy)]
 pub struct Listed {
     pub number: u8,
     pub log: PlainLog,

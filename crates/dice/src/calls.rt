@@ -17,7 +17,7 @@ pub const TALLY: u8 = 4;
 // How the result area is chosen: ample, exact, one row short, one byte short, exact and 31 bytes more.
 pub const AREAS: u64 = 5;
 
-#[derive(Drop)]
+#[derive(Clone, Copy)]
 pub struct Call {
     pub what: u8,
     pub slots: u64,

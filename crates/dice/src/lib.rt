@@ -1,5 +1,7 @@
 // Random numbers, loads of several kinds, the calls that a test program draws by them (`calls`), and what the plain list answers
 // (`answers`).
+#![tactic(auto)]
+
 pub mod answers;
 pub mod calls;
 

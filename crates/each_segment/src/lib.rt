@@ -1,5 +1,7 @@
 // Each segment that a question searches, in turn, the newest first (document 01, "Search"): where its records stand, and the set of its
 // lifts that are found. Whoever goes through the lifts of a question, segment by segment, needs nothing else of the walk.
+#![tactic(auto)]
+
 ghost use Rattle.std.specs.Prelude.{◌≡◌, true, List, ℕ, ◌+◌, ◌*◌, ◌≤◌, length};
 ghost use Rattle.flash.specs.Chip.{page_width, slot_width};
 ghost use Rattle.skiplist.specs.Skip.{serials_from};
@@ -15,7 +17,7 @@ use visit::{Closed, Log, Query};
 use walk::{Cursor, Step};
 
 // A segment at hand.
-#[derive(Drop)]
+#[derive(Clone, Copy)]
 pub struct Turn {
     // no segment is left, or damage was met
     pub done: bool,

@@ -1,4 +1,6 @@
 // Comma-separated export (document 02, W-211): a search written as text.
+#![tactic(auto)]
+
 pub mod pieces;
 
 ghost use Rattle.std.specs.Prelude.{◌≡◌};

@@ -29,14 +29,14 @@ use sweep::Records;
 use visit::{Log, Query};
 
 // The number, and how many bytes of text were written.
-#[derive(Drop)]
+#[derive(Clone, Copy)]
 pub struct Exported {
     pub number: u8,
     pub long: u64,
 }
 
 // Whether no damage was met, and how many bytes all lines have.
-#[derive(Drop)]
+#[derive(Clone, Copy)]
 struct Sized {
     good: bool,
     bytes: u64,

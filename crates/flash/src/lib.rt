@@ -1,4 +1,6 @@
 // The chips: slots and pages of NAND, and NOR (document 01, "Chips and slots").
+#![tactic(auto)]
+
 ghost use Rattle.std.specs.Prelude.{◌≡◌, ◌+◌, ◌*◌, ◌^◌, ◌≤◌, ◌<◌, length};
 ghost use Rattle.flash.specs.Chip.{slot_of, page_start, pages_of, page_erased, programmed, slot_erased, chip_erased, nor_written, nor_tree, slot_pages, slot_width, tree_width};
 
@@ -26,7 +28,7 @@ pub const NOR_BYTES: usize = 6144;
 pub const TREE_BYTES: usize = 4608;
 
 // A page's number in its slot, 0 to 31.
-#[derive(Drop)]
+#[derive(Clone, Copy)]
 pub struct Page(pub usize);
 
 // The slot of a serial.

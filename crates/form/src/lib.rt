@@ -1,8 +1,10 @@
 // The two forms of a store (document 02, W-202): what they differ in is in specs/Forms.
+#![tactic(auto)]
+
 ghost use Rattle.std.specs.Prelude.{◌≡◌};
 ghost use Rattle.form.specs.Forms.{byte_ten, pointer_width};
 
-#[derive(Drop)]
+#[derive(Clone, Copy)]
 pub enum Form {
     Old,
     New,

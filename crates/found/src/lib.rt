@@ -1,4 +1,6 @@
 // How many lifts a search finds (document 01, "Search"): segment by segment, the open one first.
+#![tactic(auto)]
+
 ghost use Rattle.std.specs.Prelude.{◌≡◌, true, false, ◌+◌, ◌*◌, ◌^◌, ◌<◌, ◌≤◌, length};
 ghost use Rattle.lift.specs.Rows.{lifts_most};
 ghost use Rattle.flash.specs.Chip.{page_width, slot_width};
@@ -19,7 +21,7 @@ pub const DAMAGE: u8 = 10;
 
 // Pages read by a search (document 02, W-207): headers that the skip walk moved onto, Bloom pages that hold a bit tried, tree pages that
 // hold a bucket visited.
-#[derive(Drop)]
+#[derive(Clone, Copy)]
 pub struct Pages {
     pub headers: u64,
     pub bloom: u64,
@@ -27,7 +29,7 @@ pub struct Pages {
 }
 
 // Whether no damage was met, how many were found, and the pages read.
-#[derive(Drop)]
+#[derive(Clone, Copy)]
 pub struct Counted {
     pub good: bool,
     pub total: u64,
@@ -35,7 +37,7 @@ pub struct Counted {
 }
 
 // A count on its way: done at the last segment or at damage.
-#[derive(Drop)]
+#[derive(Clone, Copy)]
 struct Counting {
     done: bool,
     c: Cursor,

@@ -1,4 +1,6 @@
 // An insertion into the tree's bytes (document 01, "Tree"): its plan from reads alone, then its writes.
+#![tactic(auto)]
+
 ghost use Rattle.std.specs.Prelude.{◌≡◌, cond, ℕ, ◌+◌, ◌*◌, ◌≤◌, ◌<◌, length, get_or};
 ghost use Rattle.flash.specs.Chip.{tree_width};
 ghost use Rattle.lift.specs.Limits.{code_most, loads_kept};
@@ -16,7 +18,7 @@ use lift::LOADS_KEPT;
 use tree::{Bucket, Node};
 
 // Where an entry goes.
-#[derive(Drop)]
+#[derive(Clone, Copy)]
 pub enum Plan {
     // Damage on the path.
     Damage,
@@ -33,7 +35,7 @@ pub enum Plan {
 }
 
 // `len` bytes from `at` on get a number; none where len is 0.
-#[derive(Drop)]
+#[derive(Clone, Copy)]
 pub struct Write {
     pub at: usize,
     pub len: usize,
@@ -41,7 +43,7 @@ pub struct Write {
 }
 
 // All that an insertion writes, in this order.
-#[derive(Drop)]
+#[derive(Clone, Copy)]
 pub struct Writes {
     pub mid: Write,
     pub child: Write,

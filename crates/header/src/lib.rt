@@ -1,5 +1,7 @@
 // A closed segment's header page (document 01, "Segments", "Bloom and skip list"): what it says, its damage, and its bytes as a close
 // writes them.
+#![tactic(auto)]
+
 ghost use Rattle.std.specs.Prelude.{◌≡◌, ◌≤◌, ◌<◌, length, get_or};
 ghost use Rattle.lift.specs.Rows.{lifts_most};
 ghost use Rattle.flash.specs.Chip.{page_width};
@@ -19,7 +21,7 @@ use skiplist::{LEVELS, Pointer};
 const POINTERS_AT: usize = 40;
 
 // A header as read; `good` where it has no damage.
-#[derive(Drop)]
+#[derive(Clone, Copy)]
 pub struct Header {
     pub good: bool,
     // serial, count, buckets, start time, low and high load as stored
@@ -34,7 +36,7 @@ pub struct Header {
 }
 
 // All that a close needs of the state.
-#[derive(Drop)]
+#[derive(Clone, Copy)]
 pub struct Closing {
     pub form: Form,
     // open serial, count, bucket count

@@ -16,7 +16,7 @@ use plate::PLATES;
 use store::State;
 
 // The number, the line that ended the import (0 if all went in), the state and the counts with what was appended.
-#[derive(Drop)]
+#[derive(Clone, Copy)]
 pub struct ImportedKept {
     pub number: u8,
     pub line: u64,

@@ -1,4 +1,6 @@
 // Comma-separated import (document 02, W-211): each record of a lent text is appended in turn; a bad record or a refused append ends it.
+#![tactic(auto)]
+
 pub mod counted;
 pub mod pieces;
 
@@ -16,7 +18,7 @@ use pieces::BAD_FORM;
 use store::{Answer, State};
 
 // The number, the line that ended the import (0 if all went in), and the state with what was appended.
-#[derive(Drop)]
+#[derive(Clone, Copy)]
 pub struct Imported {
     pub number: u8,
     pub line: u64,

@@ -1,4 +1,6 @@
 // A lift written straight into the area of the state; a page or a section that it fills goes out from there.
+#![tactic(auto)]
+
 ghost use Rattle.std.specs.Prelude.{◌≡◌, cond, List, ℕ, ◌+◌, ◌*◌, ◌/◌, ◌%◌, ◌≤◌, eqb, ℤ, length};
 ghost use Rattle.form.specs.declared.Form.TheVariants.{New};
 ghost use Rattle.lift.specs.Rows.{lifts_most};

@@ -1,5 +1,7 @@
 // Pairs of two logs in hand (document 02, W-208): each lift of the first, in turn, joins the first free lift of the second that fits it.
 // A lift that is joined loses its bit in the sets of the second log.
+#![tactic(auto)]
+
 pub mod look;
 
 ghost use Rattle.std.specs.Prelude.{◌≡◌, cond, [], ◌∷◌, ◌++◌, map, ℕ, ◌+◌, ◌-◌, ◌*◌, ◌^◌, ◌≤◌, ◌<◌, ltb, length};
@@ -18,7 +20,7 @@ use sweep::Records;
 use visit::{Log, Query};
 
 // Pairs on their way: no segment of the second log before `from` has a free lift, and so many pairs were made.
-#[derive(Drop)]
+#[derive(Clone, Copy)]
 struct Joining {
     from: usize,
     count: u64,

@@ -17,7 +17,7 @@ const LATER_MOST: u64 = 30000;
 
 // The time and the member that are sought. Where the times of both logs never fall, a free lift that is not later than this time is later
 // than none to come, so it loses its bit, and one that is too late ends the look.
-#[derive(Drop)]
+#[derive(Clone, Copy)]
 pub struct Sought {
     pub time: u64,
     pub member: u32,
@@ -25,7 +25,7 @@ pub struct Sought {
 }
 
 // What a free lift is to the one that is sought for.
-#[derive(Drop)]
+#[derive(Clone, Copy)]
 enum Fit {
     Behind,
     Ahead,
@@ -35,7 +35,7 @@ enum Fit {
 
 // A look through one set on its way: over at its end or at the last place to look at, where one is found or is too late; the places not yet
 // looked at, and those that are still free.
-#[derive(Drop)]
+#[derive(Clone, Copy)]
 struct Looking {
     over: bool,
     last: bool,
@@ -46,7 +46,7 @@ struct Looking {
 }
 
 // A lift that is taken: its segment and its place.
-#[derive(Drop)]
+#[derive(Clone, Copy)]
 pub struct Taken {
     pub found: bool,
     pub segment: usize,

@@ -1,4 +1,6 @@
 // The calls that keep counts beside the state (document 02, W-210): format, append and drop. The counts come by value and go back by value.
+#![tactic(auto)]
+
 pub mod pieces;
 
 ghost use Rattle.std.specs.Prelude.{◌≡◌};
@@ -13,7 +15,7 @@ use store::State;
 
 // A call's number, the next state and the next counts: both as they were where the number is not 0. A format takes neither; refused, it
 // hands back the formatted state and 22 zeros all the same.
-#[derive(Drop)]
+#[derive(Clone, Copy)]
 pub struct Counted {
     pub number: u8,
     pub state: State,

@@ -1,5 +1,7 @@
 // What a call over byte areas leaves in its caller's areas: written if the call was accepted, else as it was. A state has 783 bytes, 775
 // in form 0, the other answers are 8-byte numbers, a service page its text.
+#![tactic(auto)]
+
 ghost use Rattle.std.specs.Prelude.{◌≡◌, [], ◌∷◌, ◌*◌, ◌^◌, ◌<◌, length};
 ghost use Rattle.form.specs.declared.Form.TheVariants.{Old, New};
 ghost use Rattle.codec.specs.Number.{bytes};

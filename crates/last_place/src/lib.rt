@@ -1,4 +1,6 @@
 // The matches of one segment (`bitset`), emptied from the highest place down: for what is written from its end backwards.
+#![tactic(auto)]
+
 ghost use Rattle.std.specs.Prelude.{◌≡◌, true, ◌+◌, ◌*◌, ◌^◌, ◌≤◌, ◌<◌};
 ghost use Rattle.last_place.specs.Inner.Last.{IsLast};
 

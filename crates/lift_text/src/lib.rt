@@ -1,4 +1,6 @@
 // Lifts as text (document 02, W-211): how many bytes a lift's record has, and the record itself, written from its end backwards.
+#![tactic(auto)]
+
 ghost use Rattle.std.specs.Prelude.{◌≡◌, ◌+◌, ◌≤◌, ◌<◌, length};
 ghost use Rattle.codec.specs.Area.{splice};
 ghost use Rattle.lift.specs.Limits.{load_of};

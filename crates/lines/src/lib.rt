@@ -1,4 +1,6 @@
 // The lines of `slotlist` (document 01, "Program"): a line, read by its form.
+#![tactic(auto)]
+
 ghost use Rattle.std.specs.Prelude.{◌≡◌, ◌+◌, ◌^◌, ◌≤◌, ◌<◌, eqb, length};
 ghost use Rattle.std.proofs.Math.IntN.{sub_ℕ};
 ghost use Rattle.codec.specs.Area.{part};
@@ -21,7 +23,7 @@ pub const TIME_COLUMNS: usize = 15;
 pub const LOAD_COLUMNS: usize = 8;
 
 // A line, by its form.
-#[derive(Drop)]
+#[derive(Clone, Copy)]
 pub enum Line {
     Append(u64, i32),
     Close,
@@ -33,7 +35,7 @@ pub enum Line {
 }
 
 // A field as far as it is read: "spaces, a minus for a load below zero, then digits".
-#[derive(Drop)]
+#[derive(Clone, Copy)]
 pub enum Field {
     Spaces,
     Minus,

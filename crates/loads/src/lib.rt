@@ -1,5 +1,7 @@
 // Loads as they stand in a state's area (document 01: little-endian): one in four bytes, two's complement, and the last 13 loads of the
 // open segment side by side.
+#![tactic(auto)]
+
 ghost use Rattle.std.specs.Prelude.{◌≡◌, ◌+◌, ◌≤◌, length};
 ghost use Rattle.codec.specs.Area.{splice};
 ghost use Rattle.loads.specs.Signed as Signed;

@@ -1,4 +1,6 @@
 // What a line P prints (document 02, W-201): letter and number and, where that is 0, the service page of a tally of the program's store.
+#![tactic(auto)]
+
 ghost use Rattle.std.specs.Prelude.{◌+◌, ◌≤◌, length};
 ghost use Rattle.store.specs.World.{world};
 ghost use Rattle.questions.specs.Queries.{tally_outcome};

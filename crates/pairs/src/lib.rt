@@ -1,4 +1,6 @@
 // Supersets across two machines (document 02, W-208): the call over two stores.
+#![tactic(auto)]
+
 pub mod pieces;
 
 ghost use Rattle.std.specs.Prelude.{◌≡◌};

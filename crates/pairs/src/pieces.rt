@@ -33,14 +33,14 @@ const SEGMENTS: usize = 4097;
 const WORDS: usize = 20485;
 
 // The number, and how many pairs there are.
-#[derive(Drop)]
+#[derive(Clone, Copy)]
 pub struct Paired {
     pub number: u8,
     pub count: u64,
 }
 
 // A log in hand: whether no damage was met, its oldest segment, and whether its times never fall.
-#[derive(Drop)]
+#[derive(Clone, Copy)]
 struct Hand {
     good: bool,
     low: usize,

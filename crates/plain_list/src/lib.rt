@@ -1,5 +1,7 @@
 // The paper log of document 01 ("Paper log"; W-202) as a plain list, for test programs: it shares no code with the store. The list stands on
 // a lent sheet of numbers; the calls' numbers, serials, counts and next time are in `PlainLog`, by value. Loads are stored numbers.
+#![tactic(auto)]
+
 mod notes;
 mod plain_tree;
 mod rows;
@@ -19,7 +21,7 @@ pub const LIFTS_PER_SERIAL: u32 = 320;
 // "An append finds open serial 999,999,998 or more."
 const LAST_SERIAL: u32 = 999999998;
 
-#[derive(Drop)]
+#[derive(Clone, Copy)]
 pub struct PlainLog {
     pub slots: u64,
     pub oldest: u32,

@@ -192,7 +192,7 @@ fn put_child(sheet: &mut [u64], parent: u32, number: u32, load: u64) {
 }
 
 // The last 13 loads: their sum, and the sum of each times its place from 0.
-#[derive(Drop)]
+#[derive(Clone, Copy)]
 struct Sums {
     all: u64,
     placed: u64,

@@ -10,7 +10,7 @@ const CODE: usize = 1;
 const SERIAL: usize = 2;
 
 // t1 ≤ time ≤ t2 and k1 ≤ load ≤ k2, loads as stored.
-#[derive(Drop)]
+#[derive(Clone, Copy)]
 pub struct Query {
     pub t1: u64,
     pub t2: u64,

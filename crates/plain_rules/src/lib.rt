@@ -1,5 +1,7 @@
 // Rules of document 01 on plain numbers, as the plain list of the test programs applies them ("Plates", "Split"): the plate of a load
 // and the mid of a range. It shares no code with the store.
+#![tactic(auto)]
+
 ghost use Rattle.std.specs.Prelude.{◌≡◌, ◌+◌, ◌-◌, ◌*◌, ◌/◌, ◌^◌, ◌≤◌, ◌<◌};
 
 // Loads 250 and 10,250 as stored, and the kilograms of a plate: 5.
@@ -28,7 +30,7 @@ pub fn plate_of(code: u64) -> u64
 }
 
 // l and h, raised.
-#[derive(Drop)]
+#[derive(Clone, Copy)]
 pub struct Fit {
     pub low: u64,
     pub high: u64,

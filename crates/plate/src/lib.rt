@@ -1,4 +1,6 @@
 // The plate of a load: on a carried stack (W-205) and, for a tally, by the sticker on the frame (document 01, "Plates"; W-204).
+#![tactic(auto)]
+
 mod stacks;
 mod sticker;
 
@@ -25,7 +27,7 @@ const PAST_ENDS: u32 = CODE_OF_ZERO + 21 * NEAR;
 const BEYOND_STACK: u8 = 21;
 
 // The answer of the lookup: 0 and the plate; 5 for a load past its limit, 15 for a place beyond the carried stacks.
-#[derive(Drop)]
+#[derive(Clone, Copy)]
 pub struct Lookup {
     pub number: u8,
     pub plate: u8,

@@ -1,5 +1,7 @@
 // The calls that read (document 01, "Search", "Plates"): search and tally, each of a state and its chips. Their grounds in checking order, then
 // what the chips hold. A method must stand in the crate of its type, so these are functions of a state.
+#![tactic(auto)]
+
 pub mod pieces;
 
 ghost use Rattle.std.specs.Prelude.{◌≡◌};

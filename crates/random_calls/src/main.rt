@@ -1,6 +1,8 @@
 // Long random lists of calls on the store and on a plain list (document 01, "a plain in-memory list over long random calls"): number,
 // rows and counts of every call are compared, and the serials, count, buckets and next time after it. A line for each S and kind of
 // loads; the last column, differences, is to be 0.
+#![tactic(auto)]
+
 use call_counts::sums::Sums;
 use call_counts::{judge, print, sums};
 use compared::{Done, Pair};
@@ -20,7 +22,7 @@ const SHEET_NUMBERS: usize = 8856;
 const CALLS_IN_LIST: u64 = 4000;
 
 // Store and list, the random number for the next call, and what was counted.
-#[derive(Drop)]
+#[derive(Clone, Copy)]
 struct Turn {
     pair: Pair,
     random: u64,

@@ -11,7 +11,7 @@ use form::Form;
 use skiplist::{LEVELS, Pointer};
 
 // Byte 10 of a form, damage by the rules of a form, or a pointer that form 0 would take as live.
-#[derive(Drop)]
+#[derive(Clone, Copy)]
 pub enum Sought {
     OtherForm,
     Damage,

@@ -11,7 +11,7 @@ use carry::Serials;
 use flash::{PAGE_BYTES, Page};
 
 // The times so far: whether each was later than the one before it, and the last one if there was any.
-#[derive(Drop)]
+#[derive(Clone, Copy)]
 pub struct Rise {
     pub rising: bool,
     pub any: bool,

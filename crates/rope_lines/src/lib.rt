@@ -1,4 +1,6 @@
 // A rope report's line for one plate (document 02, W-212), and what it is made of: the work of some lifts, two of which merge.
+#![tactic(auto)]
+
 ghost use mathlib.Core.Path.{◌≡◌};
 ghost use Prim.Native.Nat.{◌+◌, ◌^◌, ◌<◌, min, max};
 ghost use lib.IntN.{sub_ℕ};
@@ -10,7 +12,7 @@ ghost use Rattle.rope_lines.specs.Work.{no_work, one_lift, shown};
 const ZERO: u64 = lift::CODE_OF_ZERO as u64;
 
 // The work of some lifts: how many they are and, of their loads as stored, the sum, the least and the greatest; all 0 where there is none.
-#[derive(Drop)]
+#[derive(Clone, Copy)]
 pub struct Work {
     pub count: u64,
     pub sum: u64,
@@ -19,7 +21,7 @@ pub struct Work {
 }
 
 // What a report says of one plate.
-#[derive(Drop)]
+#[derive(Clone, Copy)]
 pub struct Line {
     pub count: u64,
     pub sum: i64,

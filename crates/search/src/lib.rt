@@ -1,4 +1,6 @@
 // The answer of a search (document 01, "Search"): what is found is counted first, then written.
+#![tactic(auto)]
+
 pub mod write;
 
 ghost use Rattle.std.specs.Prelude.{◌≡◌, ◌≤◌, length};
@@ -17,7 +19,7 @@ use walk::Cursor;
 pub const TOO_SMALL: u8 = 12;
 
 // The number, how many were found, and the pages read.
-#[derive(Drop)]
+#[derive(Clone, Copy)]
 pub struct Found {
     pub number: u8,
     pub count: u64,
@@ -25,7 +27,7 @@ pub struct Found {
 }
 
 // Rows on their way: those from `row` on are written.
-#[derive(Drop)]
+#[derive(Clone, Copy)]
 struct Writing {
     done: bool,
     c: Cursor,

@@ -1,4 +1,6 @@
 // The pages that a close programs (document 01, "Segments"; "Chips and slots": pages of a slot).
+#![tactic(auto)]
+
 ghost use Rattle.std.specs.Prelude.{◌≡◌, true, ◌+◌, ◌*◌, ◌≤◌, ◌<◌, min, length};
 ghost use Rattle.tree.specs.Rules.{buckets_most};
 ghost use Rattle.lift.specs.Rows.{lifts_most};

@@ -1,4 +1,6 @@
 // The service page (document 02, W-201): a tally laid out for the wall, line by line.
+#![tactic(auto)]
+
 ghost use Rattle.std.specs.Prelude.{◌≡◌, [], ◌∷◌, ◌++◌, ◌+◌, ◌*◌, ◌^◌, ◌≤◌, ◌<◌, length};
 ghost use Rattle.codec.specs.Area.{splice};
 ghost use Rattle.plate.specs.Total.{total};

@@ -1,4 +1,6 @@
 // Skip pointers: the slot, the serial and the start time of a closed segment (document 01, "Bloom and skip list").
+#![tactic(auto)]
+
 ghost use Rattle.std.specs.Prelude.{◌≡◌, ◌+◌, ◌*◌, ◌≤◌, ◌<◌, length};
 ghost use Rattle.codec.specs.Area.{splice};
 ghost use Rattle.form.specs.Forms.{pointer_width};
@@ -14,7 +16,7 @@ pub const LEVELS: usize = 4;
 // "none is slot 65,535"
 const NO_SLOT: u16 = 65535;
 
-#[derive(Drop)]
+#[derive(Clone, Copy)]
 pub struct Pointer {
     // the slot of a closed segment, 65,535 for none; its serial; its start time
     pub slot: u16,

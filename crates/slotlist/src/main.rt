@@ -2,6 +2,8 @@
 // What a line says and how an answer is laid out is the crate lines'; what a line does is the crate desk's. No contract can say
 // what is read or written: the contracts here say what a run of bytes does to chips and state (`feed`), and keep the areas
 // within their bounds.
+#![tactic(auto)]
+
 mod say;
 
 ghost use Rattle.std.specs.Prelude.{◌≡◌, ◌≤◌, take};
@@ -69,7 +71,7 @@ fn feed(nand: &mut [u8], nor: &mut [u8], s0: Reader, bytes: &[u8]) -> Reader
 }
 
 // How many bytes a read brought, and the reader after them.
-#[derive(Drop)]
+#[derive(Clone, Copy)]
 struct Fed {
     n: usize,
     reader: Reader,

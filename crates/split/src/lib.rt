@@ -1,5 +1,7 @@
 // Where a full bucket is split (document 01, "Tree"): the prediction, the overlap's case, the midpoint rule, the clamp.
 // The work is on the load and 3,000,000, so that no number is below 0; a stored load is that less 2,949,999.
+#![tactic(auto)]
+
 ghost use Rattle.std.specs.Prelude.{◌≡◌, map, ℕ, ◌+◌, ◌*◌, ◌/◌, ◌<◌, ◌≤◌, min, max, get_or};
 ghost use Rattle.std.proofs.Math.IntN.{sub_ℕ};
 ghost use Rattle.lift.specs.Limits.{load_of, code_most, loads_kept};
@@ -13,7 +15,7 @@ const FITTED_OFFSET: u64 = 536899818;
 // 3,000,000 less 50,001.
 const WORK_OFFSET: u64 = 2949999;
 
-#[derive(Drop)]
+#[derive(Clone, Copy)]
 struct Predicted {
     l: u64,
     h: u64,

@@ -1,4 +1,6 @@
 // A list of stacks, read from text, and the ends of their bands printed (document 02, W-205 and W-206).
+#![tactic(auto)]
+
 mod printing;
 mod reading;
 

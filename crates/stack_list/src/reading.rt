@@ -50,7 +50,7 @@ fn plate_in(line: &[u8]) -> u32
 }
 
 // A line as read, after so many stacks, the last of them with so many plates: whether a list can go on with it.
-#[derive(Drop)]
+#[derive(Clone, Copy)]
 pub struct Read {
     pub good: bool,
     pub number: u32,

@@ -1,5 +1,7 @@
 // The state as a lent area, in the order of document 01's list, little-endian, no gaps: 783 bytes in form 1, without the oldest live
 // time, and 775 in form 0 (document 02, W-202 and W-214).
+#![tactic(auto)]
+
 pub mod pieces;
 
 ghost use Rattle.std.specs.Prelude.{◌≡◌, ◌+◌, ◌≤◌, length};

@@ -55,7 +55,7 @@ pub const LOW_AT: usize = LOADS_AT + LOW_BEHIND;
 pub const HIGH_AT: usize = LOADS_AT + HIGH_BEHIND;
 
 // The fields before the heads that both forms have, and those behind the buffers.
-#[derive(Drop)]
+#[derive(Clone, Copy)]
 pub struct Counters {
     pub oldest: u32,
     pub current: u32,
@@ -64,7 +64,7 @@ pub struct Counters {
     pub next: u64,
 }
 
-#[derive(Drop)]
+#[derive(Clone, Copy)]
 pub struct Span {
     pub start: u64,
     pub low: i32,

@@ -18,7 +18,7 @@ use crate::append::pieces::Planned;
 use grow::Plan;
 use lift::LOADS_KEPT;
 
-#[derive(Drop)]
+#[derive(Clone, Copy)]
 pub struct Fields {
     // oldest retained serial, open serial; its count and bucket count
     pub oldest: u32,

@@ -1,5 +1,7 @@
 // The store (document 01, "State", "Segments", "Twelve grounds"; form 1 of document 02, W-202): its state by value, and the calls as
 // methods.
+#![tactic(auto)]
+
 pub mod append;
 pub mod fields;
 
@@ -22,7 +24,7 @@ use lift::LOADS_KEPT;
 use skiplist::{LEVELS, Pointer};
 
 // The state, by value, in the order of document 01's list. The last loads, low and high are signed, as logged.
-#[derive(Drop)]
+#[derive(Clone, Copy)]
 pub struct State {
     // oldest retained serial
     pub oldest: u32,
@@ -49,7 +51,7 @@ pub struct State {
 
 // A state of form 0: the fields that both forms have, and the oldest live time. Its heads have no serials; what stands there is not
 // looked at.
-#[derive(Drop)]
+#[derive(Clone, Copy)]
 pub struct OldState {
     pub state: State,
     // oldest live time: "the start of the oldest retained lift, or next time if there is none"
@@ -58,7 +60,7 @@ pub struct OldState {
 
 // A call's number, and the next state: the state as it was where the number is not 0. A format takes no state; refused, it hands back the
 // formatted one all the same.
-#[derive(Drop)]
+#[derive(Clone, Copy)]
 pub struct Answer {
     pub number: u8,
     pub state: State,

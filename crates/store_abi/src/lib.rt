@@ -1,6 +1,8 @@
 // The calls for C and Rust: byte areas and numbers only. The state is a lent area of 783 bytes, 775 in form 0, the other answers are an
 // area of 8-byte numbers, a service page its text. Each call returns its number; 20 where one of these areas has another length, before
 // everything else.
+#![tactic(auto)]
+
 pub mod counted;
 pub mod lists;
 pub mod texts;

@@ -1,5 +1,7 @@
 // Cases on the store at its edges (document 01, "320 and 321 lifts, 13 and 14 equal loads"; W-202), with S = 2 and 3. The cases are a
 // script on standard input, which says at its head what its lines mean.
+#![tactic(auto)]
+
 mod asks;
 mod calls;
 mod script;

@@ -12,7 +12,7 @@ const NINE: u8 = 57;
 const MOST: u64 = 1000000000000000000;
 
 // The letter, and the numbers in order; 0 for one that is not there.
-#[derive(Drop)]
+#[derive(Clone, Copy)]
 pub struct Order {
     pub letter: u8,
     pub a: u64,
@@ -23,7 +23,7 @@ pub struct Order {
 }
 
 // The blanks passed, and the number so far.
-#[derive(Drop)]
+#[derive(Clone, Copy)]
 struct Reading {
     blanks: u64,
     value: u64,

@@ -1,4 +1,6 @@
 // A search of one tree (document 01, "Search"): its buckets in rising order of their numbers, with a mask of those due.
+#![tactic(auto)]
+
 ghost use Rattle.std.specs.Prelude.{◌≡◌, true, [], map, ℕ, ◌+◌, ◌≤◌, ◌<◌, length};
 ghost use Rattle.std.proofs.Math.Option.{some};
 ghost use Rattle.std.specs.Int.Count.{count_trailing_zeros, ones};
@@ -19,7 +21,7 @@ use bitset::Bits;
 use tree::Bucket;
 
 // Times from t1 to t2, stored loads from k1 to k2.
-#[derive(Drop)]
+#[derive(Clone, Copy)]
 pub struct Range {
     pub t1: u64,
     pub t2: u64,
@@ -28,7 +30,7 @@ pub struct Range {
 }
 
 // The segment's lifts and buckets, and the place of the first lift whose record is not in the pages of lifts but in the tail.
-#[derive(Drop)]
+#[derive(Clone, Copy)]
 pub struct Records {
     pub count: u16,
     pub buckets: u8,
@@ -36,21 +38,21 @@ pub struct Records {
 }
 
 // Whether no damage was met, and the positions found; none where damage was met.
-#[derive(Drop)]
+#[derive(Clone, Copy)]
 pub struct Sweep {
     pub good: bool,
     pub set: Bits,
 }
 
 // What a sweep found, and the mask of the pages that hold a bucket visited: bit p for page p.
-#[derive(Drop)]
+#[derive(Clone, Copy)]
 pub struct Swept {
     pub found: Sweep,
     pub read: u64,
 }
 
 // A sweep on its way: the mask of the buckets that are reached and not yet visited, the positions found and the pages read so far.
-#[derive(Drop)]
+#[derive(Clone, Copy)]
 struct Turn {
     good: bool,
     due: u64,

@@ -1,4 +1,6 @@
 // What a tally counts (document 01, "Plates"): the lifts by plate that a search over all loads finds.
+#![tactic(auto)]
+
 mod by_plate;
 
 ghost use Rattle.std.specs.Prelude.{◌≡◌, ◌≤◌, length};
@@ -15,21 +17,21 @@ use visit::{Log, Query};
 use walk::Cursor;
 
 // The number, and 22 counts.
-#[derive(Drop)]
+#[derive(Clone, Copy)]
 pub struct Tally {
     pub number: u8,
     pub counts: [u64; PLATES],
 }
 
 // Whether no damage was met, and the counts by plate.
-#[derive(Drop)]
+#[derive(Clone, Copy)]
 struct Plates {
     good: bool,
     counts: [u64; PLATES],
 }
 
 // A tally on its way.
-#[derive(Drop)]
+#[derive(Clone, Copy)]
 struct Tallying {
     done: bool,
     c: Cursor,

@@ -1,5 +1,7 @@
 // Loads known within a tolerance (document 02, W-209): the ends of the plain search that has all possible lifts, those between which a lift
 // is certain, and the grounds of the window.
+#![tactic(auto)]
+
 ghost use Rattle.std.specs.Prelude.{◌≡◌, true, ◌≤◌};
 ghost use Rattle.lift.specs.Limits.{load_ok, stored};
 ghost use Rattle.tolerance.specs.Tolerance.{low_end, high_end};
@@ -13,7 +15,7 @@ const TOLERANCE_MOST: u64 = 1000;
 const TOO_TOLERANT: u8 = 17;
 
 // Stored loads from low to high.
-#[derive(Drop)]
+#[derive(Clone, Copy)]
 pub struct Ends {
     pub low: u32,
     pub high: u32,

@@ -1,4 +1,6 @@
 // Loads known within a tolerance (document 02, W-209): a search that tells certain lifts from possible ones.
+#![tactic(auto)]
+
 pub mod pieces;
 
 ghost use Rattle.std.specs.Prelude.{◌≡◌};

@@ -33,7 +33,7 @@ use tolerance::Ends;
 use visit::{Log, Query};
 
 // The number, and how many lifts are certain and how many possible.
-#[derive(Drop)]
+#[derive(Clone, Copy)]
 pub struct Tolerated {
     pub number: u8,
     pub certain: u64,
@@ -41,7 +41,7 @@ pub struct Tolerated {
 }
 
 // Whether no damage was met, and both counts.
-#[derive(Drop)]
+#[derive(Clone, Copy)]
 struct Both {
     good: bool,
     certain: u64,

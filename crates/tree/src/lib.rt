@@ -1,5 +1,7 @@
 // The tree of a segment's loads (document 01, "Tree"): where a bucket stands, and what is read of it. The tree's area is 4,608
 // bytes, in NOR from 0 and in pages 20 to 28 of a slot. The rules and their laws are in specs/ and proofs/.
+#![tactic(auto)]
+
 ghost use Rattle.std.specs.Prelude.{◌≡◌, ◌-◌, ◌+◌, ◌*◌, ◌≤◌, ◌<◌, length};
 ghost use Rattle.tree.specs.Rules.{entries_most};
 ghost use Rattle.tree.specs.Reading.{bucket_at, entry_in, entries_from, child_at, kids_of, child_good, kids_good, positions_good};
@@ -42,18 +44,18 @@ pub const ENTRIES_AT: usize = 24;
 pub const ENTRY_BYTES: usize = 8;
 
 // A bucket's number.
-#[derive(Drop)]
+#[derive(Clone, Copy)]
 pub struct Bucket(pub u8);
 
 // A page of the slot, and an offset in it.
-#[derive(Drop)]
+#[derive(Clone, Copy)]
 pub struct Place {
     pub page: Page,
     pub offset: usize,
 }
 
 // A bucket as it is read: whether it is without damage, its range (x, y], its mid and children, how many entries it has.
-#[derive(Drop)]
+#[derive(Clone, Copy)]
 pub struct Node {
     // no damage
     pub good: bool,
@@ -69,7 +71,7 @@ pub struct Node {
 }
 
 // A bucket's entries: whether every position is below the count, and how many there are.
-#[derive(Drop)]
+#[derive(Clone, Copy)]
 struct Entries {
     good: bool,
     used: usize,

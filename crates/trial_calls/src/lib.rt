@@ -1,6 +1,8 @@
 // The store's calls as a test program makes them: loads as stored numbers, a note made from a number, and a search that is lent the
 // first bytes of an area. They promise nothing: a test program compares what it gets, and what is proved of a call stands at the
 // crate store's.
+#![tactic(auto)]
+
 use plain_list::Query;
 use search::Found;
 use store::{Answer, State};

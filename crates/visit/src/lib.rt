@@ -1,4 +1,6 @@
 // What a search takes from each segment (document 01, "Search"): its tree searched, its times filtered.
+#![tactic(auto)]
+
 ghost use Rattle.std.specs.Prelude.{◌≡◌, true, map, ◌+◌, ◌*◌, ◌≤◌, length};
 ghost use Rattle.std.specs.Int.Count.{ones};
 ghost use Rattle.flash.specs.Chip.{page_width, slot_width};
@@ -15,7 +17,7 @@ use skiplist::{LEVELS, Pointer};
 use sweep::{Range, Records, Sweep, Swept};
 
 // Times from t1 to t2, stored loads from k1 to k2.
-#[derive(Drop)]
+#[derive(Clone, Copy)]
 pub struct Query {
     pub t1: u64,
     pub t2: u64,
@@ -24,7 +26,7 @@ pub struct Query {
 }
 
 // What a search needs of the state.
-#[derive(Drop)]
+#[derive(Clone, Copy)]
 pub struct Log {
     // S
     pub slots: u64,
@@ -40,7 +42,7 @@ pub struct Log {
 }
 
 // A closed segment whose tree is searched.
-#[derive(Drop)]
+#[derive(Clone, Copy)]
 pub struct Closed {
     pub slot: usize,
     pub count: u16,

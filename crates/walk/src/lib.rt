@@ -1,4 +1,6 @@
 // A search from segment to segment (document 01, "Search"): the skip walk, then level 1.
+#![tactic(auto)]
+
 ghost use Rattle.std.specs.Prelude.{◌≡◌, not, ◌||◌, ℕ, suc, ◌+◌, ◌*◌, ◌<◌, ◌≤◌, length, get_or};
 ghost use Rattle.codec.specs.Number.{number_at};
 ghost use Rattle.flash.specs.Chip.{page_width, slot_width};
@@ -18,7 +20,7 @@ use skiplist::{LEVELS, Pointer};
 use visit::{Closed, Log, Query};
 
 // The next segment to go to, the serial before it, and whether the last one has been done.
-#[derive(Drop)]
+#[derive(Clone, Copy)]
 pub struct Cursor {
     // no damage on the way so far
     pub good: bool,
@@ -30,13 +32,13 @@ pub struct Cursor {
 }
 
 // Where the closed segments begin, and how many segments the skip walk has moved onto to find it.
-#[derive(Drop)]
+#[derive(Clone, Copy)]
 pub struct Start {
     pub at: Cursor,
     pub moves: u64,
 }
 
-#[derive(Drop)]
+#[derive(Clone, Copy)]
 pub enum Step {
     End,
     Damage,
@@ -46,7 +48,7 @@ pub enum Step {
 
 // A closed segment as its header shows it: damage, passed over, or to be searched with so many lifts and buckets; then, of the cursor
 // behind it, whether it is the last, its pointer's slot, serial and time, and its own serial; then its Bloom pages that hold a bit tried.
-#[derive(Drop)]
+#[derive(Clone, Copy)]
 pub enum Seen {
     Spoilt,
     Passed(bool, u16, u32, u64, u32, u8),
@@ -54,7 +56,7 @@ pub enum Seen {
 }
 
 // Whether a closed segment is passed over, and how many of its Bloom pages hold a bit that was tried for it.
-#[derive(Drop)]
+#[derive(Clone, Copy)]
 struct Passing {
     passed: bool,
     bloom: u8,
@@ -62,7 +64,7 @@ struct Passing {
 
 // Where the skip walk stands: at the heads of the state, or at the header in a slot. It keeps the place and not the pointers: these are
 // read from the header's bytes when they are needed.
-#[derive(Drop)]
+#[derive(Clone, Copy)]
 struct Place {
     // no damage so far
     good: bool,

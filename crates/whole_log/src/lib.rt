@@ -1,5 +1,7 @@
 // A whole log in hand (document 02, W-208): of each segment the slot and the set of its lifts that a search finds. Segment S is the open
 // one, those below it are the closed ones, the oldest lowest.
+#![tactic(auto)]
+
 pub mod rise;
 pub mod sets;
 
@@ -20,14 +22,14 @@ use visit::{Closed, Log, Query};
 use walk::{Cursor, Step};
 
 // Whether no damage was met, and the oldest segment.
-#[derive(Drop)]
+#[derive(Clone, Copy)]
 pub struct Gathered {
     pub good: bool,
     pub low: usize,
 }
 
 // A log on its way: done at the last segment or at damage.
-#[derive(Drop)]
+#[derive(Clone, Copy)]
 struct Gathering {
     done: bool,
     good: bool,

@@ -13,7 +13,7 @@ use sweep::Records;
 use visit::Log;
 
 // No time fell, and the last one.
-#[derive(Drop)]
+#[derive(Clone, Copy)]
 struct Rise {
     good: bool,
     last: u64,

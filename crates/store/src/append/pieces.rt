@@ -14,7 +14,7 @@ use grow::Plan;
 use lift::NOTE_BYTES;
 
 // An append's number, and its plan where that is 0.
-#[derive(Drop)]
+#[derive(Clone, Copy)]
 pub struct Planned {
     pub number: u8,
     pub plan: Plan,

@@ -1,0 +1,27 @@
+-- `put_fragment`: from NOR, or from the buffer.
+use mathlib.Core.Path.{◌∙◌, ap}
+use Prim.Native.Nat.{◌+◌, ◌-◌, ◌*◌}
+use Rattle.codec.specs.Area.{splice}
+use Rattle.codec.proofs.Areas.{part_from}
+use Rattle.bloom.proofs.Stored.{part_in_nor, part_in_buffer}
+use native.Mathlib.Omega.{arith}
+use Rattle.bloom.proofs.put_fragment.Goals as goal
+
+pub returns-then-j-count : goal.returns-then-j-count
+returns-then-j-count c =
+    let a = c.args in
+    let p = c.requires in
+    let start = 4608 + a.j * 128 in
+    let e = part_from a.nor.now (start + a.from) (start + a.to) (a.to - a.from) (omega arith) in
+    c.copy.ensures
+    ∙ ap (splice a.d.now a.at)
+    (e ∙ part_in_nor a.nor.now a.buffer.now a.count a.j p.0.0 p.0.1 a.from (a.to - a.from) (omega arith) (omega arith))
+
+pub returns : goal.returns
+returns c =
+    let a = c.args in
+    let p = c.requires in
+    let e = part_from a.buffer.now a.from a.to (a.to - a.from) (omega arith) in
+    c.copy-2.ensures
+    ∙ ap (splice a.d.now a.at)
+    (e ∙ part_in_buffer a.nor.now a.buffer.now a.count a.j a.from (a.to - a.from) (omega arith) p.0.2)
