@@ -90,7 +90,7 @@ class Names:
         n = norm(old)
         for k in (n, n.replace("_lem", "")):
             for place in self.chain(at):
-                if norm(self.places[place][2][0]) == k:
+                if norm(self.places[place][2][0]).lower() == k.lower():
                     return self.places[place][2][1], place
             if k in self.steps:
                 return self.steps[k], self.step_place.get(k)
@@ -156,11 +156,10 @@ class Turn:
         for _ in range(6):
             before = body
             for fn in self.aliases_fn:
-                inner = rf"(?:\(?{WORD}(?:\.{WORD})*\)?)"
-                body = re.sub(rf"\({re.escape(fn)} \(?({WORD})(?:\.before)*\)?\)", lambda m: m[1], body)
-                body = re.sub(rf"(?<=let )({WORD}) = {re.escape(fn)} \(?({WORD})(?:\.before)*\)? in", r"\1 = \2 in", body)
-                body = re.sub(rf"(?<![\w.-]){re.escape(fn)} \(({WORD})(?:\.before)*\)", r"\1", body)
-                body = re.sub(rf"(?<![\w.-]){re.escape(fn)} ({WORD})(?:\.before)*(?![\w.-])", r"\1", body)
+                body = re.sub(rf"(?<![\w.'-]){re.escape(fn)} ({WORD})(?:\.before)*(?![\w.'-])", r"\1", body)
+            body = re.sub(rf"\(({'|'.join(map(re.escape, roots | {'c'}))})(?:\.before)*\)(?=\.|\))", r"\1", body)
+            for fn in [*self.aliases_fn, *self.helpers]:
+                body = re.sub(rf"(?<![\w.'-])({re.escape(fn)}) \(({'|'.join(map(re.escape, roots | {'c'}))})\)", r"\1 \2", body)
             # aliases by let
             m = True
             while m:
@@ -174,6 +173,7 @@ class Turn:
             if body == before:
                 break
         names = "|".join(re.escape(r) for r in roots | {"c"})
+        body = self.without_lets_of_clauses(body, names, at)
 
         def path(m):
             root, rest = m[1], m[2]
@@ -185,8 +185,7 @@ class Turn:
             if not parts:
                 return "c" + ("·" if k else "")
             step = parts[0]
-            if step == "pre":
-                step = "requires"
+            step = {"pre": "requires", "fits": "ranges"}.get(step, step)
             if step == "args" and len(parts) > 1 and re.fullmatch(r"t\d+", parts[1]):
                 rows = self.clauses.get((self.crate, self.path.split("/")[-1]), [])
                 for r in rows:
@@ -195,12 +194,14 @@ class Turn:
                         parts[1] = r[2][k]
             if step in KEPT:
                 pre = self.n.row["pre"]
+                if step == "requires" and pre and len(parts) == 1:
+                    return self.tuple_of("c.requires", pre["fields"])
                 if step == "requires" and pre and len(parts) > 1 and parts[1].isdigit():
                     parts[1] = pre["fields"][int(parts[1])]
                 return "c." + ".".join([step, *parts[1:]])
             parts = [{"taken": "true", "left": "false", "type-inv": "type_inv"}.get(p, p) if i else p for i, p in enumerate(parts)]
             best = self.n.arm(step, parts[1:], at)
-            if best and best[0]:
+            if best and (best[0] or len(parts) > 1):
                 return "c." + ".".join([best[1], best[2], *parts[1 + len(best[0]) :]])
             new, place = self.n.step(step, at)
             if new is None:
@@ -227,19 +228,21 @@ class Turn:
             cl = self.n.clauses.get(place)
             if cl and len(parts) > 2 and parts[1] == "ensures" and parts[2].isdigit() and int(parts[2]) < len(cl["fields"]):
                 parts[2] = cl["fields"][int(parts[2])]
+            if cl and parts[1:] == ["ensures"]:
+                return self.tuple_of(f"c.{new}.ensures", cl["fields"])
             return "c." + ".".join([new, *parts[1:]])
 
         body = re.sub(rf"(?<![\w.'-])({names})((?:\.{WORD})*)(?![\w'-])", path, body)
         body = re.sub(rf"\((c(?:\.{WORD})+)\)", r"\1", body)
-        body = re.sub(rf"\(not-(?:true|false) _ (c\.if-not-{WORD}\.(?:true|false))\)", r"\1", body)
-        body = re.sub(rf"not-(?:true|false) _ (c\.if-not-{WORD}\.(?:true|false))", r"\1", body)
+        body = re.sub(r"(?<!not-true _ )(?<!not-false _ )(?<![\w.'-])(c\.if-not-[^\s(){},;]+\.(?:true|false))(?![\w.'·-])", r"(ap not \1)", self.no_nots(body))
+        body = re.sub(r"(\.(?:true|false))·", r"\1", body)
         # a helper's argument
         for h, (place, _) in self.helpers.items():
             k = self.n.above(at, place) if at else None
 
             def call(m, h=h, k=k, place=place):
                 if h in self.inline:
-                    return h
+                    return h + "¤"
                 if k is None:
                     self.look(f"`{h}` is of a place that is not above")
                     return f"{h} c"
@@ -248,10 +251,43 @@ class Turn:
                 return f"{h} {arg}"
 
             body = re.sub(rf"(?<![\w.'-]){re.escape(h)} (?:\(c·?\)|c·?)(?![\w.'-])", call, body)
+        body = re.sub(rf"\(({WORD})¤\)", r"\1", body).replace("¤", "")
         if "c·" in body:
             self.look("a place by itself is passed on")
             body = body.replace("c·", "c")
         return body
+
+    def no_nots(self, body):
+        """`not-true _ x`, where x says now what that lemma gave."""
+        body = re.sub(rf"\(not-(?:true|false) _ \(?(c\.if-not-{WORD}\.)(true|false)\)?\)", r"\1\2·", body)
+        return re.sub(rf"not-(?:true|false) _ \(?(c\.if-not-{WORD}\.)(true|false)\)?", r"\1\2·", body)
+
+    def without_lets_of_clauses(self, body, names, at):
+        """A let of clauses that have names now is written out where it is used."""
+        at_ = 0
+        while True:
+            m = re.compile(rf"let ({WORD}) = ((?:{names})(?:\.before)*\.({WORD}(?:\.{WORD})*)) in(\n *| )").search(body, at_)
+            if not m:
+                return body
+            parts = m[3].split(".")
+            step = "requires" if parts[0] == "pre" else parts[0]
+            if parts == ["args"]:
+                fields = re.search(rf"(?<![\w.'-]){re.escape(m[1])}\.t\d", body)
+            elif parts in (["requires"], ["pre"]):
+                fields = self.n.row["pre"]
+            elif len(parts) == 1 or parts[1:] == ["ensures"]:
+                place = self.n.step(step, at)[1]
+                fields = self.n.clauses.get(place)
+            else:
+                fields = None
+            if not fields:
+                at_ = m.end()
+                continue
+            rest = re.sub(rf"(?<![\w.'-]){re.escape(m[1])}(?![\w'-])", lambda _: m[2], body[m.end() :])
+            body = body[: m.start()] + rest
+
+    def tuple_of(self, text, fields):
+        return "(" + ", ".join(f"{text}.{f}" for f in fields) + ")"
 
     def with_lets(self, body, own=None):
         """The body with a let for each helper that stands at no place of its own."""
@@ -321,6 +357,25 @@ class Turn:
             return None
         rows = "; ".join(f"{f} = {i.strip()}" for f, i in zip(fields, items))
         return f"{m[1]}{m[2]}record {{ {rows} }}"
+
+    def record_by_let(self, out, fields):
+        """The last term of a chain of lets, a tuple or a pair that something else makes, as a record of clauses."""
+        lines = out.split("\n")
+        last = max((i for i, l in enumerate(lines) if re.search(r" in$", l)), default=-1)
+        if last >= 0:
+            head, body = "\n".join(lines[: last + 1]), "\n".join(lines[last + 1 :])
+            got = self.record_of("=" + body, fields)
+            if got:
+                return head + got[1:]
+        else:
+            m = re.match(r"(.*?=)(?=\s)(.*)", out, re.S)
+            head, body = m[1], m[2]
+        if body.strip().startswith("record"):
+            return out
+        row = "; ".join(f"{f} = both.{i}" for i, f in enumerate(fields)) if len(fields) == 2 else None
+        if row is None:
+            return None
+        return f"{head}\n    let both = {body.strip()} in\n    record {{ {row} }}"
 
     def own_clauses(self, which):
         fn = self.path.split("/")[-1]
@@ -416,6 +471,12 @@ class Turn:
 
     def used(self, uses, text):
         out = []
+        if "(ap not c.if-not" in text:
+            have = " ".join(uses)
+            if not re.search(r"[{ ]ap[,}]", have):
+                uses = [*uses, "use mathlib.Core.Path.{ap}"]
+            if not re.search(r"[{ ]not[,}]", have):
+                uses = [*uses, "use mathlib.Core.Bool.{not}"]
         for u in uses:
             m = re.match(r"use (\S+)\.\{(.*)\}$", u, re.S)
             if not m:
@@ -480,13 +541,17 @@ class Turn:
         text, more_unf = self.with_lets(text)
         unf = unf + [f"unfolding {u}" for u in more_unf]
         out = f"{new} c{''.join(' ' + a for a in args)} ={text}"
-        fields = None
-        if new == "returns" or re.match(r"returns-", new):
+        fields = next((f for k, f in self.n.row["asked"].items() if norm(k) in (key, norm(need)) or k == new), None)
+        if fields:
+            pass
+        elif new == "returns" or re.match(r"returns-", new):
             fields = self.own_clauses(1)
         elif new.endswith("requires") or "-requires" in new:
             fields = self.callee(place, new)
         if fields:
             got = self.record_of(out, fields)
+            if got is None:
+                got = self.record_by_let(out, fields)
             if got is None:
                 self.look(f"`{new}` has the clauses {', '.join(fields)}")
             else:

@@ -102,9 +102,9 @@ each_of_three true false c e = (refl, e, cc)
 each_of_three false b c e = (e, cc, cc)
 
 -- a test that passes where another does passes at the bits where that one does
-pub at_bits : (f g : ℕ → Bool) (code : ℕ) → ((d : ℕ) → f d ≡ true → g d ≡ true) → at_bits f code ≡ true → at_bits g code ≡ true
+pub at_bits_lem : (f g : ℕ → Bool) (code : ℕ) → ((d : ℕ) → f d ≡ true → g d ≡ true) → at_bits f code ≡ true → at_bits g code ≡ true
 unfolding at_bits
-at_bits f g code h e =
+at_bits_lem f g code h e =
     let b : ℕ → ℕ = λ k. bloom_bit k (code - 1) in
     let p = each_of_three (f (b 0)) (f (b 1)) (f (b 2)) e in
     all_three (g (b 0)) (g (b 1)) (g (b 2)) (h (b 0) p.0) (h (b 1) p.1) (h (b 2) p.2)
@@ -130,7 +130,7 @@ noted_holds s code z =
 
 -- a code that was noted stays noted
 pub noted_holds_on : (s : List ℕ) (code other : ℕ) → Section s → holds s code ≡ true → holds (noted s other) code ≡ true
-noted_holds_on s code other z e = at_bits (is_set s) (is_set (noted s other)) code (λ d t. noted_keeps s other d z t) e
+noted_holds_on s code other z e = at_bits_lem (is_set s) (is_set (noted s other)) code (λ d t. noted_keeps s other d z t) e
 
 -- ---- a list of codes
 
@@ -192,7 +192,7 @@ some_at (s ∷ ss) (suc j) b h e = or_second (is_set s b) (some_set ss b) (some_
 -- a segment is not passed over where one of its sections has all three bits
 pub may_hold_at : (ss : List (List ℕ)) (j code : ℕ) → j < length ss → holds (get_or ss j []) code ≡ true → may_hold ss code ≡ true
 unfolding may_hold
-may_hold_at ss j code h e = at_bits (is_set (get_or ss j [])) (some_set ss) code (λ d t. some_at ss j d h t) e
+may_hold_at ss j code h e = at_bits_lem (is_set (get_or ss j [])) (some_set ss) code (λ d t. some_at ss j d h t) e
 
 -- ---- bytes stay bytes
 

@@ -1,6 +1,6 @@
 -- The ends of a stack's bands (document 02, W-205 and W-206): each is the sum above the next plate and half of it, the last the full sum
 -- and half of the last plate; they rise strictly, and one run down the stack gives them all. Assumes nothing.
-use mathlib.Core.Path.{◌≡◌, refl, ap}
+use mathlib.Core.Path.{◌≡◌, refl, ap, subst}
 use mathlib.Core.Bool.{true, ◌&&◌}
 use mathlib.Core.List.{List, [], ◌∷◌, ◌++◌, append_assoc}
 use Prim.Native.Nat.{ℕ, zero, suc, ◌+◌, ◌-◌, ◌*◌, ◌/◌, ◌≤◌, ◌<◌}
@@ -110,7 +110,10 @@ ends_run above p (q ∷ stack) =
     let l : length (above ++ (p ∷ [])) ≡ suc (length above) = simp length-append (omega arith) in
     let m : length (above ++ (p ∷ q ∷ stack)) ≡ length above + (2 + length stack) = simp length-append (omega arith) in
     let g : get_or (above ++ (p ∷ q ∷ stack)) (suc (length above)) 0 ≡ q = rw (j, l) at (get_d_after (above ++ (p ∷ [])) stack q) in
-    let r = rw (j, l, sum_next (above ++ (p ∷ q ∷ stack)) (suc (length above)), g) at (ends_run (above ++ (p ∷ [])) q stack) in
+    let at_j = subst (λ (t : List ℕ).
+    ends_from t (suc (length stack)) (suc (length (above ++ (p ∷ [])))) ≡ running (sum_down_to t (suc (length (above ++ (p ∷ []))))) q stack)
+    j (ends_run (above ++ (p ∷ [])) q stack) in
+    let r = rw (l, sum_next (above ++ (p ∷ q ∷ stack)) (suc (length above)), g) at at_j in
     let e = rw g at (end_is (above ++ (p ∷ q ∷ stack)) (suc (length above)) (omega arith)) in
     rw (e, r)
 

@@ -17,9 +17,9 @@ module _ {A : Type 0} where
   pub part_trans : {xs ys zs : List A} → Part ys zs → Part xs ys → Part xs zs
   part_trans done p = of_nothing p
   part_trans (taken e q) done = done
-  part_trans (taken e q) (taken d p) = taken (d ∙ e) (part_trans q p)
-  part_trans (taken e q) (passed p) = passed (part_trans q p)
-  part_trans (passed q) p = passed (part_trans q p)
+  part_trans (taken e q) (taken {xs = xs} d p) = taken (d ∙ e) (part_trans {xs = xs} q p)
+  part_trans (taken e q) (passed {xs = xs} p) = passed (part_trans {xs = xs} q p)
+  part_trans {xs = xs} (passed q) p = passed (part_trans {xs = xs} q p)
 
   pub part_map : {B : Type 0} (f : A → B) {xs ys : List A} → Part xs ys → Part (map f xs) (map f ys)
   part_map f done = done

@@ -48,9 +48,9 @@ module _ (codes times : ℕ → ℕ) (r : Range) (e : Entry) (s : Sweep) (code :
   pub entry_out : within r.k1 r.k2 code ≡ false → s ≡ with_entry codes times r e s
   entry_out f = rw (← is, f)
 
-  pub entry_in : within r.k1 r.k2 code ≡ true → (p recorded time : ℕ) → p ≡ e.position → recorded ≡ codes p → time ≡ times p
+  pub entry_in_lem : within r.k1 r.k2 code ≡ true → (p recorded time : ℕ) → p ≡ e.position → recorded ≡ codes p → time ≡ times p
       → (q : Sweep) → q ≡ with_record recorded time r p code s → q ≡ with_entry codes times r e s
-  entry_in f p recorded time ep er et q eq =
+  entry_in_lem f p recorded time ep er et q eq =
       let c : codes p ≡ codes e.position = ap codes ep in
       let t : times p ≡ times e.position = ap times ep in
       eq ∙ rw (← is, f, er, et, c, t, ep)

@@ -14,4 +14,4 @@ returns-in-1 c = (simp (c.cut-in-1.ensures.0, c.in-1.is), c.cut-in-1.ensures.1)
 pub returns-in_default : goal.returns-in_default
 unfolding bloom_bit
 returns-in_default c =
-    (simp (c.cut-in_default.ensures.0, third _ c.in-0.rest.0.1 c.in-0.rest.1), c.cut-in_default.ensures.1)
+    (simp (c.cut-in_default.ensures.0, third _ c.in_default.in_default-own.rest.0.1 c.in_default.in_default-own.rest.1), c.cut-in_default.ensures.1)

@@ -9,18 +9,6 @@ use Rattle.bloom.proofs.Turns.{fragment_fits, bit_there, some_start, some_found,
 use native.Mathlib.Omega.{arith}
 use Rattle.bloom.proofs.in_some.Goals as goal
 
--- section j of the pages, and what the turn found of its bit
-abbrev section : goal.After-has_bit → List ℕ
-section c =
-    let a = c.args in
-    section_in a.pages.now a.l c.loop-j.j
-
-turn : (c : goal.After-has_bit) (v : Bool) → c.has_bit.result ≡ v
-    → is_set (section c) c.args.b ≡ v
-turn c v e =
-    bit_there (section c) c.args.b c.stored_byte-x.result
-    c.has_bit.result v c.stored_byte-x.ensures c.has_bit.ensures e
-
 pub loop-j-init : goal.loop-j-init
 loop-j-init c =
     let a = c.args in
@@ -35,17 +23,27 @@ stored_byte-x-requires c =
 
 pub returns-then-has_bit : goal.returns-then-has_bit
 returns-then-has_bit c =
+    let section : List ℕ = let a = c.args in
+    section_in a.pages.now a.l c.loop-j.j in
+    let turn : (v : Bool) → c.has_bit.result ≡ v
+    → is_set section c.args.b ≡ v = λ v e. bit_there section c.args.b c.stored_byte-x.result
+    c.has_bit.result v c.stored_byte-x.ensures c.has_bit.ensures e in
     let a = c.args in
     some_found (section_in a.pages.now a.l) a.b c.loop-j.j a.s (omega arith)
-    (turn c.before.before true c.if-has_bit.true)
+    (turn true c.if-has_bit.true)
     ∙ c.loop-j.invariant.1
 
 pub loop-j-preserved : goal.loop-j-preserved
 loop-j-preserved c =
+    let section : List ℕ = let a = c.args in
+    section_in a.pages.now a.l c.loop-j.j in
+    let turn : (v : Bool) → c.has_bit.result ≡ v
+    → is_set section c.args.b ≡ v = λ v e. bit_there section c.args.b c.stored_byte-x.result
+    c.has_bit.result v c.stored_byte-x.ensures c.has_bit.ensures e in
     let a = c.args in (
       omega arith,
       some_next (section_in a.pages.now a.l) a.b c.loop-j.j a.s (omega arith)
-          (turn c.before.before false c.if-has_bit.false)
+          (turn false c.if-has_bit.false)
           ∙ c.loop-j.invariant.1,
     )
 

@@ -10,18 +10,16 @@ use Rattle.bloom.proofs.put_fragment.Goals as goal
 pub returns-then-j-count : goal.returns-then-j-count
 returns-then-j-count c =
     let a = c.args in
-    let p = c.requires in
     let start = 4608 + a.j * 128 in
     let e = part_from a.nor.now (start + a.from) (start + a.to) (a.to - a.from) (omega arith) in
     c.copy.ensures
     ∙ ap (splice a.d.now a.at)
-    (e ∙ part_in_nor a.nor.now a.buffer.now a.count a.j p.0.0 p.0.1 a.from (a.to - a.from) (omega arith) (omega arith))
+    (e ∙ part_in_nor a.nor.now a.buffer.now a.count a.j c.requires.nor_len.0 c.requires.nor_len.1 a.from (a.to - a.from) (omega arith) (omega arith))
 
 pub returns : goal.returns
 returns c =
     let a = c.args in
-    let p = c.requires in
     let e = part_from a.buffer.now a.from a.to (a.to - a.from) (omega arith) in
     c.copy-2.ensures
     ∙ ap (splice a.d.now a.at)
-    (e ∙ part_in_buffer a.nor.now a.buffer.now a.count a.j a.from (a.to - a.from) (omega arith) p.0.2)
+    (e ∙ part_in_buffer a.nor.now a.buffer.now a.count a.j a.from (a.to - a.from) (omega arith) c.requires.nor_len.2)

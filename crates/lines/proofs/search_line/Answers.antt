@@ -13,8 +13,8 @@ returns-then-is_time-is_load c =
     c.is_load-2.ensures
     c.if-is_time-is_load.true c.time_of-t1.ensures
     c.time_of-t2.ensures
-    (to_z-of_z w32 c.load_of-k1.result (record { sfits = c.load_of-k1.type-inv }) ∙ c.load_of-k1.ensures)
-    (to_z-of_z w32 c.load_of-k2.result (record { sfits = c.load_of-k2.type-inv }) ∙ c.load_of-k2.ensures)
+    (to_z-of_z w32 c.load_of-k1.result (record { sfits = c.load_of-k1.type_inv }) ∙ c.load_of-k1.ensures)
+    (to_z-of_z w32 c.load_of-k2.result (record { sfits = c.load_of-k2.type_inv }) ∙ c.load_of-k2.ensures)
 
 pub returns : goal.returns
 returns c =

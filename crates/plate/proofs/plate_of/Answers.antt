@@ -2,27 +2,26 @@
 use mathlib.Core.Path.{sym, ◌∙◌}
 use mir.Syntax.{w32}
 use mir.ValLaws.{to_z-of_z}
-use borrow.Author.Tests.{not-true, not-false}
 use Rattle.plate.proofs.Lookups.{past_limit, no_such_stack, answered}
 use Rattle.plate.proofs.plate_of.Goals as goal
 
 pub returns-then-not-ok : goal.returns-then-not-ok
 returns-then-not-ok c =
     let e = rw (to_z-of_z w32 c.args.load c.ranges.load) at c.load_ok-ok.ensures in
-    past_limit c.args.place c.args.load (sym e ∙ not-true _ c.if-not-ok.true)
+    past_limit c.args.place c.args.load (sym e ∙ c.if-not-ok.true)
 
 pub returns-then-place-ge-CARRIED : goal.returns-then-place-ge-CARRIED
 returns-then-place-ge-CARRIED c =
     let e = rw (to_z-of_z w32 c.args.load c.ranges.load) at c.load_ok-ok.ensures in
-    no_such_stack c.args.place c.args.load (sym e ∙ not-false _ c.if-not-ok.false) c.if-place-ge-CARRIED.true
+    no_such_stack c.args.place c.args.load (sym e ∙ c.if-not-ok.false) c.if-place-ge-CARRIED.true
 
 pub stored-code-requires : goal.stored-code-requires
-stored-code-requires c = sym c.load_ok-ok.ensures ∙ not-false _ c.if-not-ok.false
+stored-code-requires c = sym c.load_ok-ok.ensures ∙ c.if-not-ok.false
 
 pub returns : goal.returns
 returns c =
     let z = to_z-of_z w32 c.args.load c.ranges.load in
     let e = rw z at c.load_ok-ok.ensures in
     let ec = rw z at c.stored-code.ensures in
-    answered c.args.place c.args.load (sym e ∙ not-false _ c.if-not-ok.false) _ _
+    answered c.args.place c.args.load (sym e ∙ c.if-not-ok.false) _ _
     c.if-place-ge-CARRIED.false ec c.plate_on-plate.ensures

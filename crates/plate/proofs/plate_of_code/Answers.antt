@@ -4,7 +4,7 @@ use mathlib.Core.Bool.{true, ◌&&◌}
 use Prim.Native.Nat.{ℕ, ◌-◌, ◌≤◌, ◌<◌}
 use native.Mathlib.Omega.{arith}
 use lib.Dec.{ltb, leb}
-use borrow.Author.Tests.{ltb-true, leb-true, not-true, not-false}
+use borrow.Author.Tests.{ltb-true, leb-true}
 use Rattle.codec.proofs.Truth.{and_left, and_right}
 use Rattle.lift.proofs.Differences as D
 use Rattle.plate.specs.Plate.{plate_of}
@@ -18,16 +18,16 @@ not_past : (code : ℕ) → (leb 50001 code && ltb code 60753) ≡ true → code
 not_past code e = omega (arith, ltb-true code 60753 (and_right (leb 50001 code) (ltb code 60753) e))
 
 pub far_plate-requires : goal.far_plate-requires
-far_plate-requires c = not-true _ c.if-not-near.true
+far_plate-requires c = c.if-not-near.true
 
 pub overflow_sub-code : goal.overflow_sub-code
-overflow_sub-code c = from_zero _ (not-false _ c.if-not-near.false)
+overflow_sub-code c = from_zero _ c.if-not-near.false
 
 pub plate_by_end-requires : goal.plate_by_end-requires
-plate_by_end-requires c = not_past _ (not-false _ c.if-not-near.false)
+plate_by_end-requires c = not_past _ c.if-not-near.false
 
 pub returns : goal.returns
 returns c =
     let code = c.args.code in
-    let l = from_zero code (not-false _ c.if-not-near.false) in
+    let l = from_zero code c.if-not-near.false in
     c.plate_by_end.ensures ∙ ap plate_of (D.same (code - 50001) 0 code 50001 (omega arith))

@@ -4,12 +4,12 @@ use Rattle.split.proofs.Offset.{bring_none, bring_some}
 use Rattle.split.proofs.bring.Goals as goal
 
 pub returns-then-y-x : goal.returns-then-y-x
-returns-then-y-x c = rw (bring_none 3000000 _ _ _ (le-leb _ _ c.if-y-x.taken))
+returns-then-y-x c = rw (bring_none 3000000 _ _ _ (le-leb _ _ c.if-y-x.true))
 
 pub returns : goal.returns
 returns c =
     rw (
       c.smaller.ensures,
       c.larger.ensures,
-      bring_some 3000000 _ _ _ (lt-leb _ _ c.if-y-x.left),
+      bring_some 3000000 _ _ _ (lt-leb _ _ c.if-y-x.false),
     )

@@ -5,7 +5,7 @@ use native.Mathlib.Omega.{arith}
 use Rattle.split.proofs.mid_of.Goals as goal
 
 -- where `mid` has returned
-found c (c : goal.After-mid-m)
+found : (c : goal.After-mid-m)
     → Midway c.args.x c.args.y c.args.loads (c.mid-m.result - 2949999)
 found c =
     midpoint_work _ _ _ _ c.mid-m.result c.args.loads c.requires.x_lt_y.0 c.predict-p.ensures c.mid-m.ensures
@@ -17,4 +17,6 @@ pub overflow_cast-result : goal.overflow_cast-result
 overflow_cast-result c = omega (arith, found c)
 
 pub returns : goal.returns
-returns c = found c
+returns c =
+    let both = found c in
+    record { is = both.0; within = both.1 }

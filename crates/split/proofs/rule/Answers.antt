@@ -62,5 +62,5 @@ returns-else-h-l c =
 
 pub returns-in_default : goal.returns-in_default
 returns-in_default c =
-    let m = c.in-0.rest in
+    let m = c.in_default.in_default-own.rest in
     rw (c.halfway-in_default.ensures, rule_rest 3000000 _ _ _ _ _ m.0.0.0.1 m.0.0.1 m.0.1 m.1)

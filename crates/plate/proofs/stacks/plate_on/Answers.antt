@@ -10,5 +10,5 @@ returns-in-0 c =
 
 pub returns-in_default : goal.returns-in_default
 returns-in_default c =
-    let e : c.args.place ≡ 1 = omega (arith, c.requires, c.in-0.rest.1) in
+    let e : c.args.place ≡ 1 = omega (arith, c.requires, c.in_default.in_default-own.rest.1) in
     by_table _ 1 _ _ _ _ c.ends_at_1-ends.ensures c.plate_by-in_default.ensures e c.from_zero-load.ensures

@@ -17,4 +17,4 @@ no_end_past_20 : (n : ℕ) → n ≤ 20 → 21 ≤ n → ⊥
 no_end_past_20 n h l = omega arith
 
 pub returns-in_default : goal.returns-in_default
-returns-in_default c = absurd (no_end_past_20 _ c.requires (past 21 _ c.in-0.rest))
+returns-in_default c = absurd (no_end_past_20 _ c.requires (past 21 _ c.in_default.in_default-own.rest))
