@@ -44,11 +44,54 @@ def clauses_of(crates):
                         head = m[2]
                         pre = re.findall(r"^\s*requires\*? ?(\w*) ?\{", head, re.M)
                         post = re.findall(r"^\s*ensures\*? ?(\w*) ?\{", head, re.M)
-                        muts = re.findall(r"(\w+)\s*:\s*&(?:'\w+ )?mut\b", head)
+                        muts = self_and_wide(head)
                         params = re.match(r"\s*(?:<[^>]*>)?\s*\((.*?)\)\s*(?:->|requires|ensures|\n)", head + "\n", re.S)
                         params = re.findall(r"(?:^|[(,])\s*(?:mut )?&?(?:mut )?(\w+)(?=\s*:|\s*,|\s*$)", params[1], re.M) if params else []
                         found.setdefault((crate, m[1]), []).append((pre, post, params, muts))
     return found
+
+
+def self_and_wide(head):
+    """The parameters that are no plain number: what a call's `new` and `auto` list."""
+    m = re.match(r"\s*(?:<[^>]*>)?\s*\(", head)
+    if not m:
+        return []
+    depth, cur, parts = 1, "", []
+    for ch in head[m.end() :]:
+        depth += ch in "([<"
+        depth -= ch in ")]>"
+        if depth == 0:
+            break
+        if ch == "," and depth == 1:
+            parts.append(cur)
+            cur = ""
+        else:
+            cur += ch
+    parts.append(cur)
+    out = []
+    for p in (p.strip() for p in parts):
+        if re.fullmatch(r"&?(?:mut )?self", p):
+            out.append("self")
+        elif ":" in p and not re.fullmatch(r"[ui](?:8|16|32|64|size)|bool", p.split(":", 1)[1].strip()):
+            out.append(p.split(":")[0].replace("mut ", "").strip())
+    return out
+
+
+def picked(fields, rest):
+    """Clauses stood as pairs of pairs: `.1.0` of three is the second's name."""
+    i = 0
+    while i < len(fields) - 1 and rest:
+        step = rest.pop(0)
+        if step == "0":
+            return [fields[i], *rest]
+        if step != "1":
+            return None
+        i += 1
+    return [fields[i], *rest] if i == len(fields) - 1 else None
+
+
+def nested(texts):
+    return texts[0] if len(texts) == 1 else f"({texts[0]}, {nested(texts[1:])})"
 
 
 class Names:
@@ -164,7 +207,7 @@ class Turn:
             m = True
             while m:
                 names = "|".join(re.escape(r) for r in roots)
-                m = re.search(rf"let ({WORD}) = \(?({names})(?:\.before)*\)? in(\n *| )", body)
+                m = re.search(rf"let ({WORD}) =\s+\(?({names})(?:\.before)*\)? in(\n *| )", body)
                 if m:
                     alias = m[1]
                     body = body[: m.start()] + body[m.end() :]
@@ -197,7 +240,11 @@ class Turn:
                 if step == "requires" and pre and len(parts) == 1:
                     return self.tuple_of("c.requires", pre["fields"])
                 if step == "requires" and pre and len(parts) > 1 and parts[1].isdigit():
-                    parts[1] = pre["fields"][int(parts[1])]
+                    got = picked(pre["fields"], parts[1:])
+                    if got is None:
+                        self.look(f"the clauses of `c.requires`: {'.'.join(parts)}")
+                    else:
+                        parts = ["requires", *got]
                 return "c." + ".".join([step, *parts[1:]])
             parts = [{"taken": "true", "left": "false", "type-inv": "type_inv"}.get(p, p) if i else p for i, p in enumerate(parts)]
             best = self.n.arm(step, parts[1:], at)
@@ -213,7 +260,7 @@ class Turn:
                     for s, v in self.n.typed[p].items():
                         if norm(s) == norm(step) or norm(s) == norm(new):
                             return "c." + ".".join(["type_inv", v, *parts[2:]])
-            if len(parts) > 2 and parts[1] == "new" and parts[2].isdigit():
+            if len(parts) > 2 and parts[1] in ("new", "auto") and parts[2].isdigit():
                 fn = (self.n.places[place][3] or "").split("::")
                 rows = self.clauses.get((fn[0], fn[-1]), [])
                 muts = rows[0][3] if len(rows) == 1 else []
@@ -226,14 +273,19 @@ class Turn:
                 else:
                     self.look(f"`{new}.new.{k}`")
             cl = self.n.clauses.get(place)
-            if cl and len(parts) > 2 and parts[1] == "ensures" and parts[2].isdigit() and int(parts[2]) < len(cl["fields"]):
-                parts[2] = cl["fields"][int(parts[2])]
+            if cl and len(parts) > 2 and parts[1] == "ensures" and parts[2].isdigit():
+                got = picked(cl["fields"], parts[2:])
+                if got is None:
+                    self.look(f"the clauses of {'.'.join(parts)}")
+                else:
+                    parts = [parts[0], "ensures", *got]
             if cl and parts[1:] == ["ensures"]:
                 return self.tuple_of(f"c.{new}.ensures", cl["fields"])
             return "c." + ".".join([new, *parts[1:]])
 
         body = re.sub(rf"(?<![\w.'-])({names})((?:\.{WORD})*)(?![\w'-])", path, body)
         body = re.sub(rf"\((c(?:\.{WORD})+)\)", r"\1", body)
+        body = re.sub(r"\(record \{ sfits = c\.type_inv\.[\w.]+ \}\)", "(search rules)", body)
         body = re.sub(r"(?<!not-true _ )(?<!not-false _ )(?<![\w.'-])(c\.if-not-[^\s(){},;]+\.(?:true|false))(?![\w.'·-])", r"(ap not \1)", self.no_nots(body))
         body = re.sub(r"(\.(?:true|false))·", r"\1", body)
         # a helper's argument
@@ -266,7 +318,7 @@ class Turn:
         """A let of clauses that have names now is written out where it is used."""
         at_ = 0
         while True:
-            m = re.compile(rf"let ({WORD}) = ((?:{names})(?:\.before)*\.({WORD}(?:\.{WORD})*)) in(\n *| )").search(body, at_)
+            m = re.compile(rf"let ({WORD}) =\s+((?:{names})(?:\.before)*\.({WORD}(?:\.{WORD})*)) in(\n *| )").search(body, at_)
             if not m:
                 return body
             parts = m[3].split(".")
@@ -277,7 +329,7 @@ class Turn:
                 fields = self.n.row["pre"]
             elif len(parts) == 1 or parts[1:] == ["ensures"]:
                 place = self.n.step(step, at)[1]
-                fields = self.n.clauses.get(place)
+                fields = self.n.clauses.get(place) or re.search(rf"(?<![\w.'-]){re.escape(m[1])}\.(?:new|auto|given|type-inv|taken|left)\b", body)
             else:
                 fields = None
             if not fields:
@@ -287,7 +339,7 @@ class Turn:
             body = body[: m.start()] + rest
 
     def tuple_of(self, text, fields):
-        return "(" + ", ".join(f"{text}.{f}" for f in fields) + ")"
+        return nested([f"{text}.{f}" for f in fields])
 
     def with_lets(self, body, own=None):
         """The body with a let for each helper that stands at no place of its own."""
@@ -353,6 +405,22 @@ class Turn:
                 cur += ch
         if cur.strip():
             items.append(cur)
+        while len(items) < len(fields) and len(items) > 1:
+            inner = items[-1].strip()
+            if not (inner.startswith("(") and inner.endswith(")")):
+                return None
+            more, depth, cur = [], 0, ""
+            for ch in inner[1:-1]:
+                depth += ch in "({["
+                depth -= ch in ")}]"
+                if ch == "," and depth == 0:
+                    more.append(cur)
+                    cur = ""
+                else:
+                    cur += ch
+            if cur.strip():
+                more.append(cur)
+            items = [*items[:-1], *more]
         if len(items) != len(fields):
             return None
         rows = "; ".join(f"{f} = {i.strip()}" for f, i in zip(fields, items))
@@ -360,6 +428,17 @@ class Turn:
 
     def record_by_let(self, out, fields):
         """The last term of a chain of lets, a tuple or a pair that something else makes, as a record of clauses."""
+        for m in re.finditer(r" in(?=\s+\()", out):
+            depth = 0
+            for k, ch in enumerate(out[m.end() :]):
+                depth += ch in "({["
+                depth -= ch in ")}]"
+                if depth == 0 and not ch.isspace():
+                    break
+            if not out[m.end() + k + 1 :].strip():
+                got = self.record_of("=" + out[m.end() :], fields)
+                if got:
+                    return out[: m.end()] + got[1:]
         lines = out.split("\n")
         last = max((i for i, l in enumerate(lines) if re.search(r" in$", l)), default=-1)
         if last >= 0:
@@ -372,9 +451,8 @@ class Turn:
             head, body = m[1], m[2]
         if body.strip().startswith("record"):
             return out
-        row = "; ".join(f"{f} = both.{i}" for i, f in enumerate(fields)) if len(fields) == 2 else None
-        if row is None:
-            return None
+        at = ["both" + ".1" * i + (".0" if i < len(fields) - 1 else "") for i in range(len(fields))]
+        row = "; ".join(f"{f} = {a}" for f, a in zip(fields, at))
         return f"{head}\n    let both = {body.strip()} in\n    record {{ {row} }}"
 
     def own_clauses(self, which):

@@ -1,7 +1,7 @@
 // The same with kept counts (W-210): each append keeps them.
 ghost use Rattle.std.specs.Prelude.{◌≡◌, ◌≤◌, length, drop};
 ghost use Rattle.form.specs.declared.Form.TheVariants.{New};
-ghost use Rattle.csv.specs.Grammar.{lines_of};
+ghost use Rattle.csv_text.specs.Grammar.{lines_of};
 ghost use Rattle.counts.specs.CountsBytes.{counts_length};
 ghost use Rattle.state_bytes.specs.StateBytes.{area_length};
 ghost use Rattle.import.specs.Fold.{import_lines};
@@ -10,7 +10,7 @@ ghost use Rattle.areas.specs.Areas.{left_kept, lent_kept, kept_ground, append_ke
 ghost use Rattle.area_import.specs.Inner.Line.{line_left_kept};
 
 use crate::Ended;
-use csv::Line;
+use csv_text::Line;
 use import::pieces;
 use import::pieces::BAD_FORM;
 
@@ -66,7 +66,7 @@ fn import_lines(
     let mut at = from;
     let mut line: u64 = 2;
     while at < text.len() {
-        let l = csv::line_at(text, at);
+        let l = csv_text::line_at(text, at);
         let number = append_line(state, counts, nand, nor, slots, l);
         if number != 0 {
             return Ended { number, line };
@@ -95,7 +95,7 @@ pub fn import(
     if number != 0 {
         return Ended { number, line: 0 };
     }
-    let h = csv::heading_of(text);
+    let h = csv_text::heading_of(text);
     let good = h.good;
     if !good {
         return Ended {

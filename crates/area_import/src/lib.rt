@@ -5,14 +5,14 @@ pub mod counted;
 
 ghost use Rattle.std.specs.Prelude.{◌≡◌, ◌≤◌, length, drop};
 ghost use Rattle.form.specs.declared.Form.TheVariants.{New};
-ghost use Rattle.csv.specs.Grammar.{lines_of};
+ghost use Rattle.csv_text.specs.Grammar.{lines_of};
 ghost use Rattle.state_bytes.specs.StateBytes.{area_length};
 ghost use Rattle.import.specs.Fold.{import_lines};
 ghost use Rattle.import.specs.Inner.Lines.{told_or, imported};
 ghost use Rattle.areas.specs.Areas.{left, lent, lent_ground, append_in, lent_after, import_in};
 ghost use Rattle.area_import.specs.Inner.Line.{line_left};
 
-use csv::Line;
+use csv_text::Line;
 use import::pieces;
 use import::pieces::BAD_FORM;
 
@@ -56,7 +56,7 @@ fn import_lines(
     let mut at = from;
     let mut line: u64 = 2;
     while at < text.len() {
-        let l = csv::line_at(text, at);
+        let l = csv_text::line_at(text, at);
         let number = append_line(state, nand, nor, slots, l);
         if number != 0 {
             return Ended { number, line };
@@ -77,7 +77,7 @@ pub fn import(state: &mut [u8], nand: &mut [u8], nor: &mut [u8], slots: u64, tex
     if number != 0 {
         return Ended { number, line: 0 };
     }
-    let h = csv::heading_of(text);
+    let h = csv_text::heading_of(text);
     let good = h.good;
     if !good {
         return Ended {

@@ -50,9 +50,9 @@ pub fn events(what: u8, before: PlainLog, after: PlainLog, expected: u8, differs
 }
 
 // The first difference of a line's calls.
-pub fn tell(s: Sums, c: Call, expected: u8, number: u8, differs: bool) {
+pub fn tell(rt: &impl Print, s: Sums, c: Call, expected: u8, number: u8, differs: bool) {
     let n = s.n;
     if differs & (n[DIFFERENCES] == 0) {
-        print::difference(n[CALLS], c, expected, number);
+        print::difference(rt, n[CALLS], c, expected, number);
     }
 }

@@ -2,8 +2,6 @@
 use crate::sums::Sums;
 use dice::calls::Call;
 
-const STDOUT: i32 = 1;
-
 const WIDTH: usize = 9;
 
 const WORD_BYTES: usize = 10;
@@ -14,6 +12,15 @@ const GROUND_ZERO: usize = 13;
 
 const GROUNDS: usize = 12;
 
+// What standard output does not take is lost: the counts go on.
+fn put(rt: &impl Print, text: &[u8]) {
+    let _ = rt.write_all(text);
+}
+
+fn put_decimal(rt: &impl Print, n: u64) {
+    let _ = rt.print(n);
+}
+
 fn get(counts: &[u64], at: usize) -> u64 {
     if at < counts.len() {
         return counts[at];
@@ -21,110 +28,112 @@ fn get(counts: &[u64], at: usize) -> u64 {
     0
 }
 
-pub fn head() {
-    io::write_all(
-        STDOUT,
+pub fn head(rt: &impl Print) {
+    put(
+        rt,
         b"S loads         calls  appends   closes    drops searches     rows",
     );
-    io::write_all(
-        STDOUT,
+    put(
+        rt,
         b"  tallies  refused   by 320    by 36   forced repeated   differ\n",
     );
 }
 
-fn column(n: u64) {
+fn column(rt: &impl Print, n: u64) {
     let mut o = [32u8; WIDTH];
     answers::put_number(&mut o, 0, WIDTH, false, n);
-    io::write_all(STDOUT, &o);
+    put(rt, &o);
 }
 
-fn item(n: u64) {
-    io::write_all(STDOUT, b" ");
-    io::print_decimal(STDOUT, n);
+fn item(rt: &impl Print, n: u64) {
+    put(rt, b" ");
+    put_decimal(rt, n);
 }
 
-fn end_line() {
-    io::write_all(STDOUT, b"\n");
+fn end_line(rt: &impl Print) {
+    put(rt, b"\n");
 }
 
-fn columns(counts: &[u64]) {
+fn columns(rt: &impl Print, counts: &[u64]) {
     let mut i: usize = 0;
     while i < COLUMNS {
-        column(get(counts, i));
+        column(rt, get(counts, i));
         i += 1;
     }
-    end_line();
+    end_line(rt);
 }
 
 // The word at this place of a text of words that are ten bytes wide.
-fn word(words: &[u8], place: u8) {
+fn word(rt: &impl Print, words: &[u8], place: u8) {
     let at = (place as usize) * WORD_BYTES;
     if at + WORD_BYTES <= words.len() {
-        io::write_all(STDOUT, &words[at..at + WORD_BYTES]);
+        put(rt, &words[at..at + WORD_BYTES]);
     }
 }
 
-fn name(kind: u8) {
+fn name(rt: &impl Print, kind: u8) {
     word(
+        rt,
         b" equal     rising    falling   clustered random    negative  edges     splitting",
         kind,
     );
 }
 
-pub fn line(slots: u64, kind: u8, s: Sums) {
+pub fn line(rt: &impl Print, slots: u64, kind: u8, s: Sums) {
     let n = s.n;
-    io::print_decimal(STDOUT, slots);
-    name(kind);
-    columns(&n);
+    put_decimal(rt, slots);
+    name(rt, kind);
+    columns(rt, &n);
 }
 
 // The counts of all lists, and how many calls each ground refused.
-pub fn totals(s: Sums) {
+pub fn totals(rt: &impl Print, s: Sums) {
     let n = s.n;
-    io::write_all(STDOUT, b"all        ");
-    columns(&n);
-    refused(&n);
+    put(rt, b"all        ");
+    columns(rt, &n);
+    refused(rt, &n);
 }
 
-fn ground_line(ground: usize, n: u64) {
+fn ground_line(rt: &impl Print, ground: usize, n: u64) {
     if n == 0 {
         return;
     }
-    io::write_all(STDOUT, b"refused by ground ");
-    io::print_decimal(STDOUT, ground as u64);
-    column(n);
-    end_line();
+    put(rt, b"refused by ground ");
+    put_decimal(rt, ground as u64);
+    column(rt, n);
+    end_line(rt);
 }
 
 // How many calls each ground of the list refused.
-fn refused(counts: &[u64]) {
+fn refused(rt: &impl Print, counts: &[u64]) {
     let mut ground: usize = 1;
     while ground <= GROUNDS {
-        ground_line(ground, get(counts, GROUND_ZERO + ground));
+        ground_line(rt, ground, get(counts, GROUND_ZERO + ground));
         ground += 1;
     }
 }
 
 // The call of a line at which store and list first differ: its S, times and stored loads, then both numbers.
-pub fn difference(number: u64, c: Call, expected: u8, found: u8) {
-    io::write_all(STDOUT, b"difference at call");
-    item(number);
+pub fn difference(rt: &impl Print, number: u64, c: Call, expected: u8, found: u8) {
+    put(rt, b"difference at call");
+    item(rt, number);
     word(
+        rt,
         b" append    close     drop      search    tally    ",
         c.what,
     );
-    arguments(c);
-    io::write_all(STDOUT, b", list and store");
-    item(expected as u64);
-    item(found as u64);
-    end_line();
+    arguments(rt, c);
+    put(rt, b", list and store");
+    item(rt, expected as u64);
+    item(rt, found as u64);
+    end_line(rt);
 }
 
-fn arguments(c: Call) {
+fn arguments(rt: &impl Print, c: Call) {
     let q = c.q;
-    item(c.slots);
-    item(q.t1);
-    item(q.t2);
-    item(q.k1);
-    item(q.k2);
+    item(rt, c.slots);
+    item(rt, q.t1);
+    item(rt, q.t2);
+    item(rt, q.k1);
+    item(rt, q.k2);
 }

@@ -11,12 +11,12 @@ pub fn get(s: &[u8], at: usize) -> u8 {
 
 // Times 2^40 + 2^8 + 179, modulo 2^64.
 fn times_prime(h: u64) -> u64 {
-    let a = std::num::wrapping_add_u64(h << 40, h << 8);
-    let b = std::num::wrapping_add_u64(h << 7, h << 5);
-    let c = std::num::wrapping_add_u64(h << 4, h << 1);
-    let d = std::num::wrapping_add_u64(a, b);
-    let e = std::num::wrapping_add_u64(c, h);
-    std::num::wrapping_add_u64(d, e)
+    let a = (h << 40).wrapping_add(h << 8);
+    let b = (h << 7).wrapping_add(h << 5);
+    let c = (h << 4).wrapping_add(h << 1);
+    let d = a.wrapping_add(b);
+    let e = c.wrapping_add(h);
+    d.wrapping_add(e)
 }
 
 // Of the first n bytes.

@@ -12,10 +12,10 @@ use lib.ListN.{length, get_or, drop}
 use lib.Seq.{drop-cons, drop-length}
 use borrow.Author.Tests.{ne_eqb}
 use Rattle.lift_text.specs.Text.{Told}
-use Rattle.csv.specs.declared.Heading.{Heading}
-use Rattle.csv.specs.declared.Line.{Line}
-use Rattle.csv.specs.Grammar.{onto_first, lines_of, after_first}
-use Rattle.csv.specs.Inner.Reading.{first_record, told_by, LineRead, HeadingRead}
+use Rattle.csv_text.specs.declared.Heading.{Heading}
+use Rattle.csv_text.specs.declared.Line.{Line}
+use Rattle.csv_text.specs.Grammar.{onto_first, lines_of, after_first}
+use Rattle.csv_text.specs.Inner.Reading.{first_record, told_by, LineRead, HeadingRead}
 use Rattle.import.specs.Fold.{Imported, line_number, line_after, import_lines, import_text}
 use Rattle.import.specs.Inner.Lines.{told_or, imported}
 

@@ -3,7 +3,7 @@
 use Rattle.std.specs.Prelude.{cond, List, [], ◌∷◌, ℕ, suc, eqb}
 use Rattle.std.proofs.Math.Option.{Option, none, some}
 use Rattle.lift_text.specs.Text.{Told}
-use Rattle.csv.specs.Grammar.{lines_of, has_heading, after_first, record_in}
+use Rattle.csv_text.specs.Grammar.{lines_of, has_heading, after_first, record_in}
 
 -- the number, the line that ended it (0 if all went in), and the store as it is left
 pub record Imported (X : Type 0) : Type 0 where

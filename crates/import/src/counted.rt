@@ -1,6 +1,6 @@
 // The same with kept counts (W-210): each append keeps them.
 ghost use Rattle.std.specs.Prelude.{◌≡◌, ◌≤◌, length, drop};
-ghost use Rattle.csv.specs.Grammar.{lines_of};
+ghost use Rattle.csv_text.specs.Grammar.{lines_of};
 ghost use Rattle.store.specs.World.{world};
 ghost use Rattle.keeping.specs.Keeping.{counted, store};
 ghost use Rattle.import.specs.Fold.{import_lines};
@@ -9,7 +9,7 @@ ghost use Rattle.import.specs.Inner.Lines.{told_or, line_kept, imported};
 
 use crate::pieces;
 use crate::pieces::BAD_FORM;
-use csv::Line;
+use csv_text::Line;
 use form::Form;
 use keeping::Counted;
 use plate::PLATES;
@@ -89,7 +89,7 @@ fn import_lines(
     let mut at = from;
     let mut line: u64 = 2;
     while at < text.len() {
-        let l = csv::line_at(text, at);
+        let l = csv_text::line_at(text, at);
         let a = append_line(state, kept, nand, nor, slots, l);
         state = a.state;
         kept = a.counts;
@@ -117,7 +117,7 @@ pub fn import(
     if n != 0 {
         return ended(n, 0, s, counts);
     }
-    let h = csv::heading_of(text);
+    let h = csv_text::heading_of(text);
     let good = h.good;
     if !good {
         return ended(BAD_FORM, 1, s, counts);

@@ -5,14 +5,14 @@ pub mod counted;
 pub mod pieces;
 
 ghost use Rattle.std.specs.Prelude.{◌≡◌, ◌≤◌, length, drop};
-ghost use Rattle.csv.specs.Grammar.{lines_of};
+ghost use Rattle.csv_text.specs.Grammar.{lines_of};
 ghost use Rattle.store.specs.World.{world};
 ghost use Rattle.store.specs.Calls.{returned, state_ground};
 ghost use Rattle.import.specs.Fold.{import_lines};
 ghost use Rattle.import.specs.Call.{append_told, import_outcome};
 ghost use Rattle.import.specs.Inner.Lines.{told_or, line_outcome, imported};
 
-use csv::Line;
+use csv_text::Line;
 use form::Form;
 use pieces::BAD_FORM;
 use store::{Answer, State};
@@ -71,7 +71,7 @@ fn import_lines(
     let mut at = from;
     let mut line: u64 = 2;
     while at < text.len() {
-        let l = csv::line_at(text, at);
+        let l = csv_text::line_at(text, at);
         let a = append_line(state, nand, nor, slots, l);
         state = a.state;
         if a.number != 0 {
@@ -91,7 +91,7 @@ pub fn import(s: State, nand: &mut [u8], nor: &mut [u8], slots: u64, text: &[u8]
     if n != 0 {
         return ended(n, 0, s);
     }
-    let h = csv::heading_of(text);
+    let h = csv_text::heading_of(text);
     let good = h.good;
     if !good {
         return ended(BAD_FORM, 1, s);

@@ -30,16 +30,17 @@ struct Turn {
 }
 
 // What was counted, with a call that was done.
-fn counted(counts: Sums, c: Call, before: PlainLog, d: Done) -> Sums {
+fn counted(rt: &impl Print, counts: Sums, c: Call, before: PlainLog, d: Done) -> Sums {
     let p = d.pair;
     let after = p.log;
     let differs = !(d.good & (d.expected == d.number));
-    judge::tell(counts, c, d.expected, d.number, differs);
+    judge::tell(rt, counts, c, d.expected, d.number, differs);
     let e = judge::events(c.what, before, after, d.expected, differs);
     sums::counted(sums::with_rows(counts, d.rows), e)
 }
 
 fn next_turn(
+    rt: &impl Print,
     nand: &mut [u8],
     nor: &mut [u8],
     sheet: &mut [u64],
@@ -52,7 +53,7 @@ fn next_turn(
     let before = t.counts;
     let c = dice::calls::pick(sheet, log, kind, list, t.random);
     let d = compared::call(nand, nor, sheet, p, c);
-    let counts = counted(before, c, log, d);
+    let counts = counted(rt, before, c, log, d);
     let pair = d.pair;
     Turn {
         pair,
@@ -62,6 +63,7 @@ fn next_turn(
 }
 
 fn turns(
+    rt: &impl Print,
     nand: &mut [u8],
     nor: &mut [u8],
     sheet: &mut [u64],
@@ -72,7 +74,7 @@ fn turns(
     let mut t = first;
     let mut left = CALLS_IN_LIST;
     while 0 < left {
-        t = next_turn(nand, nor, sheet, t, kind, list);
+        t = next_turn(rt, nand, nor, sheet, t, kind, list);
         left -= 1;
     }
     t.counts
@@ -91,6 +93,7 @@ fn first_turn(nand: &mut [u8], nor: &mut [u8], slots: u64, random: u64) -> Turn 
 }
 
 fn list_of_calls(
+    rt: &impl Print,
     nand: &mut [u8],
     nor: &mut [u8],
     sheet: &mut [u64],
@@ -99,24 +102,24 @@ fn list_of_calls(
     list: u64,
 ) -> Sums {
     let first = first_turn(nand, nor, slots, dice::first(slots, kind, list));
-    turns(nand, nor, sheet, first, kind, list)
+    turns(rt, nand, nor, sheet, first, kind, list)
 }
 
 // Two lists of one kind of loads, on one sheet, and their line.
-fn kind_of_loads(nand: &mut [u8], nor: &mut [u8], slots: u64, kind: u8) -> Sums {
+fn kind_of_loads(rt: &impl Print, nand: &mut [u8], nor: &mut [u8], slots: u64, kind: u8) -> Sums {
     let mut sheet = [0u64; SHEET_NUMBERS];
-    let a = list_of_calls(nand, nor, &mut sheet, slots, kind, 0);
-    let b = list_of_calls(nand, nor, &mut sheet, slots, kind, 1);
+    let a = list_of_calls(rt, nand, nor, &mut sheet, slots, kind, 0);
+    let b = list_of_calls(rt, nand, nor, &mut sheet, slots, kind, 1);
     let counts = sums::sum(a, b);
-    print::line(slots, kind, counts);
+    print::line(rt, slots, kind, counts);
     counts
 }
 
-fn all_kinds(nand: &mut [u8], nor: &mut [u8], slots: u64) -> Sums {
+fn all_kinds(rt: &impl Print, nand: &mut [u8], nor: &mut [u8], slots: u64) -> Sums {
     let mut counts = sums::none();
     let mut kind: u8 = 0;
     while kind < dice::KINDS {
-        let more = kind_of_loads(nand, nor, slots, kind);
+        let more = kind_of_loads(rt, nand, nor, slots, kind);
         counts = sums::sum(counts, more);
         kind += 1;
     }
@@ -124,28 +127,28 @@ fn all_kinds(nand: &mut [u8], nor: &mut [u8], slots: u64) -> Sums {
 }
 
 // A store of this many slots, at the start of the chip; what was counted before and with it.
-fn with_slots(nand: &mut [u8], nor: &mut [u8], before: Sums, slots: u64) -> Sums {
+fn with_slots(rt: &impl Print, nand: &mut [u8], nor: &mut [u8], before: Sums, slots: u64) -> Sums {
     if slots <= MOST_SLOTS {
         let n = (slots * SLOT_BYTES) as usize;
         if n <= nand.len() {
-            let more = all_kinds(&mut nand[..n], nor, slots);
+            let more = all_kinds(rt, &mut nand[..n], nor, slots);
             return sums::sum(before, more);
         }
     }
     before
 }
 
-fn all_sizes(nand: &mut [u8], nor: &mut [u8]) -> Sums {
-    let a = with_slots(nand, nor, sums::none(), 2);
-    let b = with_slots(nand, nor, a, 3);
-    let c = with_slots(nand, nor, b, 4);
-    with_slots(nand, nor, c, 8)
+fn all_sizes(rt: &impl Print, nand: &mut [u8], nor: &mut [u8]) -> Sums {
+    let a = with_slots(rt, nand, nor, sums::none(), 2);
+    let b = with_slots(rt, nand, nor, a, 3);
+    let c = with_slots(rt, nand, nor, b, 4);
+    with_slots(rt, nand, nor, c, 8)
 }
 
-fn main() {
+fn main(rt: HostRuntime) {
     let mut nand = [0u8; NAND_BYTES];
     let mut nor = [0u8; NOR_BYTES];
-    print::head();
-    let totals = all_sizes(&mut nand, &mut nor);
-    print::totals(totals);
+    print::head(&rt);
+    let totals = all_sizes(&rt, &mut nand, &mut nor);
+    print::totals(&rt, totals);
 }

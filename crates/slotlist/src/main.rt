@@ -12,21 +12,25 @@ ghost use Rattle.store.specs.World.{world};
 ghost use Rattle.desk.specs.Obeyed.{obeyed, desk, typed, typed_all};
 
 use desk::Reader;
+use std::io::Read;
 use store::State;
 
+// The most bytes that one read brings.
+const INPUT_BYTES: usize = 4096;
+
 // Does what one line says, and prints the answer.
-fn obey(nand: &mut [u8], nor: &mut [u8], s: State, line: &[u8]) -> State
+fn obey(rt: &impl Print, nand: &mut [u8], nor: &mut [u8], s: State, line: &[u8]) -> State
     ensures { world nand.new nor.new result
         ≡ obeyed (world nand.old nor.old s) (line_of line.now) }
 {
     let l = lines::parse(line);
     let a = desk::carried_out(nand, nor, s, l);
-    say::answer(nand, nor, a, l);
+    say::answer(rt, nand, nor, a, l);
     a.state
 }
 
 // Obeys the line so far, and starts the next.
-fn obey_line(nand: &mut [u8], nor: &mut [u8], s: Reader) -> Reader
+fn obey_line(rt: &impl Print, nand: &mut [u8], nor: &mut [u8], s: Reader) -> Reader
     requires { s.len ≤ 48 }
     ensures { (result.len ≡ 0) × (world nand.new nor.new result.state
         ≡ obeyed (world nand.old nor.old s.state) (line_of (take s.len s.line))) }
@@ -34,7 +38,7 @@ fn obey_line(nand: &mut [u8], nor: &mut [u8], s: Reader) -> Reader
     let state = s.state;
     let line = s.line;
     let len = s.len;
-    let next = obey(nand, nor, state, &line[..len]);
+    let next = obey(rt, nand, nor, state, &line[..len]);
     Reader {
         state: next,
         line,
@@ -43,19 +47,19 @@ fn obey_line(nand: &mut [u8], nor: &mut [u8], s: Reader) -> Reader
 }
 
 // One byte of the input.
-fn accept(nand: &mut [u8], nor: &mut [u8], s: Reader, b: u8) -> Reader
+fn accept(rt: &impl Print, nand: &mut [u8], nor: &mut [u8], s: Reader, b: u8) -> Reader
     requires { s.len ≤ 48 }
     ensures { (result.len ≤ 48) × (desk nand.new nor.new result
         ≡ typed (desk nand.old nor.old s) b) }
 {
     if lines::ends_line(b) {
-        return obey_line(nand, nor, s);
+        return obey_line(rt, nand, nor, s);
     }
     desk::pushed(s, b)
 }
 
 // Some bytes of the input, in order.
-fn feed(nand: &mut [u8], nor: &mut [u8], s0: Reader, bytes: &[u8]) -> Reader
+fn feed(rt: &impl Print, nand: &mut [u8], nor: &mut [u8], s0: Reader, bytes: &[u8]) -> Reader
     requires { s0.len ≤ 48 }
     ensures { (result.len ≤ 48) × (desk nand.new nor.new result
         ≡ typed_all (desk nand.old nor.old s0) bytes.now) }
@@ -64,7 +68,7 @@ fn feed(nand: &mut [u8], nor: &mut [u8], s0: Reader, bytes: &[u8]) -> Reader
     let mut i: usize = 0;
     while i < bytes.len() {
         let b = bytes[i];
-        s = accept(nand, nor, s, b);
+        s = accept(rt, nand, nor, s, b);
         i += 1;
     }
     s
@@ -77,26 +81,38 @@ struct Fed {
     reader: Reader,
 }
 
-// Reads once.
-fn read_some(nand: &mut [u8], nor: &mut [u8], s: Reader) -> Fed
+// Reads once; a read that fails is the end of the input.
+fn read_some(
+    rt: &impl Print,
+    input: &mut impl Read,
+    nand: &mut [u8],
+    nor: &mut [u8],
+    s: Reader,
+) -> Fed
     requires { s.len ≤ 48 }
     ensures { result.reader.len ≤ 48 }
 {
-    let mut buf = io::buffer();
-    let n = io::count(libc::read(0, &mut buf), &buf);
-    let t = feed(nand, nor, s, &buf[..n]);
+    let mut buf = [0u8; INPUT_BYTES];
+    let n = input.read(&mut buf).unwrap_or(0);
+    let t = feed(rt, nand, nor, s, &buf[..n]);
     Fed { n, reader: t }
 }
 
 // Reads to the end of the input. A proved loop has to end, so this one counts its turns down, from a number that no run uses up.
-fn read_all(nand: &mut [u8], nor: &mut [u8], s0: Reader) -> Reader
+fn read_all(
+    rt: &impl Print,
+    input: &mut impl Read,
+    nand: &mut [u8],
+    nor: &mut [u8],
+    s0: Reader,
+) -> Reader
     requires { s0.len ≤ 48 }
     ensures { result.len ≤ 48 }
 {
     let mut s = s0;
     let mut turns: u64 = 18446744073709551615;
     while 0 < turns {
-        let f = read_some(nand, nor, s);
+        let f = read_some(rt, input, nand, nor, s);
         s = f.reader;
         let n = f.n;
         turns -= 1;
@@ -108,18 +124,18 @@ fn read_all(nand: &mut [u8], nor: &mut [u8], s0: Reader) -> Reader
 }
 
 // Obeys every line of the input. A last line without its line feed counts.
-fn run(nand: &mut [u8], nor: &mut [u8], state: State) {
+fn run(rt: &(impl Print + Input), nand: &mut [u8], nor: &mut [u8], state: State) {
     let s0 = desk::begun(state);
-    let s = read_all(nand, nor, s0);
+    let s = read_all(rt, &mut rt.reader(), nand, nor, s0);
     let len = s.len;
     if 0 < len {
-        obey_line(nand, nor, s);
+        obey_line(rt, nand, nor, s);
     }
 }
 
-fn main() {
+fn main(rt: HostRuntime) {
     let mut nand = [0u8; desk::NAND_BYTES];
     let mut nor = [0u8; flash::NOR_BYTES];
     let s = desk::formatted(&mut nand, &mut nor);
-    run(&mut nand, &mut nor, s);
+    run(&rt, &mut nand, &mut nor, s);
 }

@@ -6,9 +6,12 @@ mod asks;
 mod calls;
 mod script;
 
+ghost use Rattle.std.specs.Prelude.{◌≤◌, length};
+
 use case_print::Trial;
 use plate::PLATES;
 use script::Order;
+use std::io::Read;
 
 const NAND_BYTES: usize = 49152;
 
@@ -55,25 +58,25 @@ fn change_byte(nand: &mut [u8], nor: &mut [u8], o: Order) {
     }
 }
 
-fn say(nand: &[u8], nor: &[u8], t: Trial, letter: u8) {
+fn say(rt: &impl Print, nand: &[u8], nor: &[u8], t: Trial, letter: u8) {
     match letter {
-        STATE => case_print::state(nand, nor, t),
-        ROWS => case_print::rows(t),
-        COUNTS => case_print::counts(t),
-        NUMBER => case_print::number(t.number as u64),
-        FOUND => case_print::item(b"/", t.found),
-        CHIPS => case_print::chips(nand, nor),
-        END => case_print::end_line(),
+        STATE => case_print::state(rt, nand, nor, t),
+        ROWS => case_print::rows(rt, t),
+        COUNTS => case_print::counts(rt, t),
+        NUMBER => case_print::number(rt, t.number as u64),
+        FOUND => case_print::item(rt, b"/", t.found),
+        CHIPS => case_print::chips(rt, nand, nor),
+        END => case_print::end_line(rt),
         _ => {}
     }
 }
 
-fn say_text(line: &[u8], letter: u8) {
+fn say_text(rt: &impl Print, line: &[u8], letter: u8) {
     if (letter < b'A') | (b'Z' < letter) {
         return;
     }
     let at = script::text_start(line);
-    case_print::text(&line[at..]);
+    case_print::text(rt, &line[at..]);
 }
 
 fn with_call(nand: &mut [u8], nor: &mut [u8], t0: Trial, o: Order) -> Trial {
@@ -86,34 +89,34 @@ fn with_call(nand: &mut [u8], nor: &mut [u8], t0: Trial, o: Order) -> Trial {
 }
 
 // A line has one of all these.
-fn obey(nand: &mut [u8], nor: &mut [u8], t0: Trial, line: &[u8]) -> Trial {
+fn obey(rt: &impl Print, nand: &mut [u8], nor: &mut [u8], t0: Trial, line: &[u8]) -> Trial {
     let o = script::read(line);
     let letter = o.letter;
-    say_text(line, letter);
-    say(nand, nor, t0, letter);
+    say_text(rt, line, letter);
+    say(rt, nand, nor, t0, letter);
     change_byte(nand, nor, o);
     let t = with_call(nand, nor, t0, o);
     asks::asked(nand, nor, t, o)
 }
 
 // The calls are lent the first bytes of each chip.
-fn obey_on(nand: &mut [u8], nor: &mut [u8], t: Trial, line: &[u8]) -> Trial {
+fn obey_on(rt: &impl Print, nand: &mut [u8], nor: &mut [u8], t: Trial, line: &[u8]) -> Trial {
     let n = t.nand;
     let m = t.nor;
     if n <= nand.len() {
         if m <= nor.len() {
-            return obey(&mut nand[..n], &mut nor[..m], t, line);
+            return obey(rt, &mut nand[..n], &mut nor[..m], t, line);
         }
     }
     t
 }
 
-fn obey_all(nand: &mut [u8], nor: &mut [u8], t0: Trial, script: &[u8]) {
+fn obey_all(rt: &impl Print, nand: &mut [u8], nor: &mut [u8], t0: Trial, script: &[u8]) {
     let mut t = t0;
     let mut at: usize = 0;
     while at < script.len() {
         let end = script::line_end(script, at);
-        t = obey_on(nand, nor, t, &script[at..end]);
+        t = obey_on(rt, nand, nor, t, &script[at..end]);
         at = end + 1;
     }
 }
@@ -133,11 +136,26 @@ fn begun(nand: &mut [u8], nor: &mut [u8]) -> Trial {
     }
 }
 
-fn main() {
+// Reads until `script` is full, the input ends or a read fails; how many bytes it has from its start.
+fn read_full(input: &mut impl Read, script: &mut [u8]) -> usize
+    ensures { result ≤ length script.new }
+{
+    let mut done: usize = 0;
+    while done < script.len() {
+        let n = input.read(&mut script[done..]).unwrap_or(0);
+        if n == 0 {
+            return done;
+        }
+        done += n;
+    }
+    done
+}
+
+fn main(rt: HostRuntime) {
     let mut nand = [0u8; NAND_BYTES];
     let mut nor = [0u8; NOR_BYTES];
     let mut script = [0u8; SCRIPT_BYTES];
-    let n = io::read_full(0, &mut script);
+    let n = read_full(&mut rt.reader(), &mut script);
     let t = begun(&mut nand, &mut nor);
-    obey_all(&mut nand, &mut nor, t, &script[..n]);
+    obey_all(&rt, &mut nand, &mut nor, t, &script[..n]);
 }

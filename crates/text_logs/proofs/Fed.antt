@@ -18,8 +18,8 @@ use Rattle.paper_log.specs.Calls as Paper
 use Rattle.round_trips.specs.Reaches.{Reaches, called}
 use Rattle.round_trips.proofs.Known.{known}
 use Rattle.lift_text.specs.Text.{Told, record_text, file_text}
-use Rattle.csv.specs.Words.{Tellable, AllTellable}
-use Rattle.csv.proofs.ReadBack.{record_back, file_back, file_heading}
+use Rattle.csv_text.specs.Words.{Tellable, AllTellable}
+use Rattle.csv_text.proofs.ReadBack.{record_back, file_back, file_heading}
 use Rattle.import.specs.Fold.{Imported, import_lines, import_text}
 use Rattle.text_logs.specs.TextLog.{lift_told, append_told, import_of_log}
 use Rattle.text_logs.proofs.Imports.{request_told, told_typed}

@@ -7,7 +7,7 @@ use mathlib.Core.List.{List, [], ◌∷◌}
 use Prim.Native.Nat.{ℕ, suc}
 use lib.Dec.{eqb}
 use Rattle.lift_text.specs.Text.{Told}
-use Rattle.csv.specs.Grammar.{lines_of, has_heading, after_first, record_in}
+use Rattle.csv_text.specs.Grammar.{lines_of, has_heading, after_first, record_in}
 use Rattle.import.specs.Fold.{Imported, bad_form, line_number, line_after, import_lines, import_text}
 use Rattle.text_logs.specs.TextLog.{Alike}
 

@@ -15,7 +15,7 @@ use Rattle.paper_log.specs.Log.{Log, begun, close_log, drop_log, is_full, room_l
 use Rattle.paper_log.specs.Calls.{number_of, after, stepped}
 use Rattle.answers.specs.Printed.{digits_within, digits}
 use Rattle.lift_text.specs.Text.{head_text, load_text, record_text, lines_text, file_text}
-use Rattle.csv.specs.Grammar.{onto_first, lines_of, same, all_digits, value_from, number_in, load_in, member_in, fields_of, record_of, record_in}
+use Rattle.csv_text.specs.Grammar.{onto_first, lines_of, same, all_digits, value_from, number_in, load_in, member_in, fields_of, record_of, record_in}
 use Rattle.import.specs.Fold.{import_lines, import_text}
 use Rattle.import.specs.Call.{note_of}
 use Rattle.text_logs.specs.TextLog.{export_of_log, import_of_log, lift_told}

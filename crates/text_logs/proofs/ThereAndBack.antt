@@ -24,7 +24,7 @@ use Rattle.round_trips.specs.Reaches.{Chips, Reaches, formatted}
 use Rattle.round_trips.proofs.Known.{Known, known}
 use Rattle.round_trips.proofs.RoundTrips.{serials_kept}
 use Rattle.lift_text.specs.Text.{file_text}
-use Rattle.csv.specs.Words.{AllTellable}
+use Rattle.csv_text.specs.Words.{AllTellable}
 use Rattle.export.specs.Answers.{ExportAnswer, refused_export}
 use Rattle.export.specs.Call.{export_outcome}
 use Rattle.import.specs.Call.{import_outcome}

@@ -12,7 +12,7 @@ use Rattle.segment.proofs.ImageBytes.{bytes_part}
 use Rattle.paper_log.specs.Log.{Lift}
 use Rattle.refinement.proofs.Good.{GoodLift, GoodLifts}
 use Rattle.lift_text.specs.Text.{Told}
-use Rattle.csv.specs.Words.{Tellable, AllTellable}
+use Rattle.csv_text.specs.Words.{Tellable, AllTellable}
 use Rattle.import.specs.Call.{note_of}
 use Rattle.text_logs.specs.TextLog.{told_of, lift_told}
 use Rattle.text_logs.proofs.Imports.{told_typed}

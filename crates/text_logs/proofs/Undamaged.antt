@@ -19,7 +19,7 @@ use Rattle.refinement.specs.Run.{expected, expected_all}
 use Rattle.refinement.proofs.Demands.{fair_all}
 use Rattle.round_trips.specs.Reaches.{Reaches}
 use Rattle.lift_text.specs.Text.{Told}
-use Rattle.csv.specs.Grammar.{lines_of, has_heading, after_first, record_in}
+use Rattle.csv_text.specs.Grammar.{lines_of, has_heading, after_first, record_in}
 use Rattle.export.specs.Answers.{ExportAnswer, refused_export}
 use Rattle.export.specs.Call.{export_outcome}
 use Rattle.import.specs.Fold.{Imported, line_number, line_after, import_lines, import_text}

@@ -3,7 +3,7 @@ use mathlib.Core.Path.{◌≡◌, refl, ap, ◌∙◌}
 use Prim.Native.Nat.{◌-◌, ◌^◌, ◌<◌}
 use native.Mathlib.Omega.{arith}
 use lib.ListN.{length, drop}
-use Rattle.csv.specs.Grammar.{lines_of}
+use Rattle.csv_text.specs.Grammar.{lines_of}
 use Rattle.import.specs.Fold.{import_lines}
 use Rattle.import.proofs.Folding.{Imports, begins, all_in, ends_here, record_good, goes_in}
 use Rattle.areas.specs.Areas.{Left, Lent, lent, lent_ground, append_in, lent_after}

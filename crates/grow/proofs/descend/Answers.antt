@@ -18,13 +18,13 @@ loop-steps-init c = (omega arith, omega arith, refl)
 
 pub bucket_of-bucket-requires : goal.bucket_of-bucket-requires
 bucket_of-bucket-requires c =
-    omega (arith, bucket_start_lem c.loop-steps.b, (c.requires.tree_width_in_bounds, c.requires.by_index), c.loop-steps.invariant.0)
+    omega (arith, bucket_start_lem c.loop-steps.b, c.requires.tree_width_in_bounds, c.loop-steps.invariant.0)
 
 pub node_in-n-requires : goal.node_in-n-requires
 node_in-n-requires c =
     let bytes : length c.bucket_of-bucket.result.now ≡ 128 = ap length c.bucket_of-bucket.ensures
     ∙ length_part c.args.tree.now (bucket_start c.loop-steps.b) 128
-    (omega (arith, bucket_start_lem c.loop-steps.b, (c.requires.tree_width_in_bounds, c.requires.by_index), c.loop-steps.invariant.0)) in
+    (omega (arith, bucket_start_lem c.loop-steps.b, c.requires.tree_width_in_bounds, c.loop-steps.invariant.0)) in
     omega (arith, bytes)
 
 pub returns-then-not-good : goal.returns-then-not-good
@@ -35,7 +35,7 @@ returns-then-not-good c =
     let a = c.args in
     c.node_in-n.ensures ∙ ap (λ (s : List ℕ). seen_node s b a.buckets a.count) c.bucket_of-bucket.ensures in
     step_damage _ _ _ _ _ _ _ _ c.loop-steps.invariant.2 c.loop-steps-test.true
-    (good_is _ _ _ _ _ seen _ c.if-not-good.true
+    (good_is _ _ _ _ _ seen _ c.if-not-good.true)
 
 pub plan_here-requires : goal.plan_here-requires
 plan_here-requires c =
@@ -44,7 +44,8 @@ plan_here-requires c =
     c.node_in-n.result ≡ seen_node (bucket_at a.tree.now b) b a.buckets a.count = let b = c.loop-steps.b in
     let a = c.args in
     c.node_in-n.ensures ∙ ap (λ (s : List ℕ). seen_node s b a.buckets a.count) c.bucket_of-bucket.ensures in
-    let small = c.requires.by_index in    record { x_lt_y = good_range _ _ _ _ _ seen c.if-not-good.false; by_index = small }
+    let small = c.requires.by_index in
+    record { x_lt_y = good_range _ _ _ _ _ seen c.if-not-good.false; by_index = small }
 
 pub returns-then-c : goal.returns-then-c
 returns-then-c c =
@@ -56,7 +57,7 @@ returns-then-c c =
     let v = sees _ _ _ _ _ seen in
     c.plan_here.ensures _ v
     ∙ step_here _ _ _ _ _ _ _ _ c.loop-steps.invariant.2 c.loop-steps-test.true
-    (good_is _ _ _ _ _ seen _ c.if-not-good.false
+    (good_is _ _ _ _ _ seen _ c.if-not-good.false)
     (child_none _ c.if-c.true _ (c.child_for-c.ensures _ v))
 
 pub loop-steps-preserved : goal.loop-steps-preserved

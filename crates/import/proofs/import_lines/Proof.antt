@@ -3,7 +3,7 @@ use mathlib.Core.Path.{◌≡◌, refl, ap, ◌∙◌}
 use Prim.Native.Nat.{◌-◌, ◌^◌, ◌<◌}
 use native.Mathlib.Omega.{arith}
 use lib.ListN.{length, drop}
-use Rattle.csv.specs.Grammar.{lines_of}
+use Rattle.csv_text.specs.Grammar.{lines_of}
 use Rattle.store.specs.World.{world}
 use Rattle.store.specs.Calls.{Outcome, state_ground}
 use Rattle.import.specs.declared.Imported.{Imported}

@@ -2,8 +2,8 @@
 use Rattle.std.specs.Prelude.{cond, ℕ}
 use Rattle.std.proofs.Math.Option.{Option, none, some}
 use Rattle.lift_text.specs.Text.{Told}
-use Rattle.csv.specs.declared.Line.{Line}
-use Rattle.csv.specs.Inner.Reading.{told_by}
+use Rattle.csv_text.specs.declared.Line.{Line}
+use Rattle.csv_text.specs.Inner.Reading.{told_by}
 use Rattle.store.specs.World.{World}
 use Rattle.store.specs.Calls.{Outcome, state_ground}
 use Rattle.keeping.specs.Keeping.{Store, Counted}

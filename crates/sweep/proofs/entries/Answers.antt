@@ -5,11 +5,15 @@ use Rattle.sweep.proofs.Passing.{passed_none, position_below, passed_more, passe
 use Rattle.sweep.proofs.entries.Goals as goal
 
 pub loop-i-init : goal.loop-i-init
-loop-i-init c = passed_none _ _ _ _ _ _ _ c.requires.in_bounds.1 c.requires.bucket_value.0
+loop-i-init c = passed_none _ _ _ _ _ _ _ c.requires.in_bounds.1 c.requires.bucket_value
 
 pub entry_at-s-requires : goal.entry_at-s-requires
 entry_at-s-requires c =
-    let p = position_below _ _ _ _ _ _ _ _ _ c.loop-i.invariant (omega arith) in record { i_lt_entries_most = (p.0, c.requires.in_bounds.0, p.1); recorded = c.requires.bucket_value.1 }
+    let p = position_below _ _ _ _ _ _ _ _ _ c.loop-i.invariant (omega arith) in
+    record {
+      i_lt_entries_most = (p.0, c.requires.in_bounds.0, p.1);
+      recorded = c.requires.recorded;
+    }
 
 pub loop-i-preserved : goal.loop-i-preserved
 loop-i-preserved c = rw c.entry_at-s.ensures (passed_more _ _ _ _ _ _ _ _ _ c.loop-i.invariant (omega arith))

@@ -21,7 +21,7 @@ returns-then-p-g c =
     let a = c.args in
     let at = early a.lifts.now a.tail.now a.g _ c.if-p-g.true in
     entry_in_lem (codes_of a.lifts.now a.tail.now a.g) (times_of a.lifts.now a.tail.now a.g) a.r
-    (entry_in a.bucket.now a.i) a.s _ c.entry_code-code.ensures (ranged) _ _ _
+    (entry_in a.bucket.now a.i) a.s _ c.entry_code-code.ensures ranged _ _ _
     c.entry_position-p.ensures at.0 at.1 _ c.compared.ensures
 
 pub returns : goal.returns
@@ -31,5 +31,5 @@ returns c =
     let a = c.args in
     let at = late a.lifts.now a.tail.now a.g _ c.if-p-g.false in
     entry_in_lem (codes_of a.lifts.now a.tail.now a.g) (times_of a.lifts.now a.tail.now a.g) a.r
-    (entry_in a.bucket.now a.i) a.s _ c.entry_code-code.ensures (ranged) _ _ _
+    (entry_in a.bucket.now a.i) a.s _ c.entry_code-code.ensures ranged _ _ _
     c.entry_position-p.ensures at.0 at.1 _ c.compared-2.ensures

@@ -13,7 +13,11 @@ use Rattle.sweep.proofs.sweep_tree.Goals as goal
 
 pub returns-then-g-eq0 : goal.returns-then-g-eq0
 returns-then-g-eq0 c =
-    let b = turn_bare _ _ _ _ _ _ c.empty-none.ensures c.if-g-eq0.true in    record { found = b.0; pages = λ e. b.1 }
+    let b = turn_bare _ _ _ _ _ _ c.empty-none.ensures c.if-g-eq0.true in
+    record {
+      found = b.0;
+      pages = λ e. b.1;
+    }
 
 pub loop-g-init : goal.loop-g-init
 loop-g-init c =
@@ -27,25 +31,29 @@ pub returns-then-not-go : goal.returns-then-not-go
 returns-then-not-go c =
     let a = c.args in
     let t = c.loop-g.t in
-    let none = c.if-not-go.true in (
-      c.ended-found.ensures ∙ turn_last _ _ _ _ _ _ none ∙ c.loop-g.invariant.1,
-      λ e. let good = ended_was t _ c.ended-found.ensures e in
-    let both = turn_read a.tree.now a.lifts.now a.tail.now a.g a.r t none good (search rules) c.requires.few (c.loop-g.invariant.2 good),
-    ) in
-    record { found = both.0; pages = both.1 }
+    let none = c.if-not-go.true in
+    record {
+      found = c.ended-found.ensures ∙ turn_last _ _ _ _ _ _ none ∙ c.loop-g.invariant.1;
+      pages = λ e. let good = ended_was t _ c.ended-found.ensures e in
+          turn_read a.tree.now a.lifts.now a.tail.now a.g a.r t none good (search rules) c.requires.few (c.loop-g.invariant.2 good);
+    }
 
 pub visit-t-requires : goal.visit-t-requires
 visit-t-requires c =
-    let go = and_parts c.loop-g.t.good _ c.if-not-go.false in    record { held = c.requires; good_value = (go.0, ltb-true 0 _ go.1, c.loop-g.invariant.0) }
+    let go = and_parts c.loop-g.t.good _ c.if-not-go.false in
+    record {
+      held = c.requires;
+      good_value = (go.0, ltb-true 0 _ go.1, c.loop-g.invariant.0);
+    }
 
 pub loop-g-smaller : goal.loop-g-smaller
 loop-g-smaller c =
     let go = and_parts c.loop-g.t.good _ c.if-not-go.false in
     let r = lowest_rises c.loop-g.t.due (ltb-true 0 _ go.1) (search rules) c.visit-t.result.due (search rules)
-    c.visit-t.ensures.left.0.1 in
+    c.visit-t.ensures.left.1 in
     omega (arith, r, trailing_le 64 c.visit-t.result.due)
 
 pub loop-g-preserved : goal.loop-g-preserved
 loop-g-preserved c =
     let go = and_parts c.loop-g.t.good _ c.if-not-go.false in
-    (c.visit-t.ensures.left.0.0, c.visit-t.ensures.leads ∙ c.loop-g.invariant.1, λ e j. c.visit-t.ensures.left.1 e j ∙ c.loop-g.invariant.2 go.0 j)
+    (c.visit-t.ensures.left.0, c.visit-t.ensures.leads ∙ c.loop-g.invariant.1, λ e j. c.visit-t.ensures.pages e j ∙ c.loop-g.invariant.2 go.0 j)
