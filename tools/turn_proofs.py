@@ -235,6 +235,7 @@ class Turn:
                     k = int(parts[1][1:]) - 1
                     if parts[1] not in r[2] and k < len(r[2]):
                         parts[1] = r[2][k]
+                        break
             if step in KEPT:
                 pre = self.n.row["pre"]
                 if step == "requires" and pre and len(parts) == 1:
@@ -246,7 +247,7 @@ class Turn:
                     else:
                         parts = ["requires", *got]
                 return "c." + ".".join([step, *parts[1:]])
-            parts = [{"taken": "true", "left": "false", "type-inv": "type_inv"}.get(p, p) if i else p for i, p in enumerate(parts)]
+            parts = [{"taken": "true", "left": "false", "type-inv": "type_inv"}.get(p, p) if i and (p == "type-inv" or re.match(r"if\d|loop.test", parts[0])) else p for i, p in enumerate(parts)]
             best = self.n.arm(step, parts[1:], at)
             if best and (best[0] or len(parts) > 1):
                 return "c." + ".".join([best[1], best[2], *parts[1 + len(best[0]) :]])

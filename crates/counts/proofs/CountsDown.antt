@@ -21,9 +21,9 @@ CodesOk [] = Unit {0}
 CodesOk (code ∷ codes) = (code_ok code ≡ true) × CodesOk codes
 
 -- a lift more, last
-pub one_more : (codes : List ℕ) (code : ℕ) → one_more (counts_of codes) code ≡ counts_of (codes ++ (code ∷ []))
+pub one_more_lem : (codes : List ℕ) (code : ℕ) → one_more (counts_of codes) code ≡ counts_of (codes ++ (code ∷ []))
 unfolding one_more
-one_more codes code =
+one_more_lem codes code =
     counts_more codes code
     ∙ same_counts (code ∷ codes) (codes ++ (code ∷ [])) (λ n.
     omega (arith, count_append n (code ∷ []) codes, count_append n codes (code ∷ [])))
@@ -41,9 +41,9 @@ module _ (codes : List ℕ) (code : ℕ) where
       ∙ get_or-set_same counts place (count_for counts code + 1) 0 (omega (arith, plate_small (load_of code), length_counts codes))
 
   -- the lift less again
-  one_less : one_less (counts_of (code ∷ codes)) code ≡ counts_of codes
+  one_less_lem : one_less (counts_of (code ∷ codes)) code ≡ counts_of codes
   unfolding one_less
-  one_less =
+  one_less_lem =
       let n : count_for (counts_of (code ∷ codes)) code - 1 ≡ count_for counts code = omega (arith, one_there) in
       rw n (ap (λ (cs : List ℕ). set cs place (count_for counts code)) (sym (counts_more codes code))
       ∙ set-set counts place (count_for counts code + 1) (count_for counts code) ∙ set-get_or counts place 0)
@@ -54,4 +54,4 @@ unfolding counted_down
 counted_down_lem [] rest ok = refl
 counted_down_lem (code ∷ codes) rest ok =
     let some_there = lt-ltb 0 (count_for (counts_of (code ∷ codes ++ rest)) code) (omega (arith, one_there (codes ++ rest) code)) in
-    rw (ok.0, some_there, one_less (codes ++ rest) code) (counted_down_lem codes rest ok.1)
+    rw (ok.0, some_there, one_less_lem (codes ++ rest) code) (counted_down_lem codes rest ok.1)

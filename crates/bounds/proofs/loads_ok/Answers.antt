@@ -5,7 +5,6 @@ use lib.ListN.{get_or, length}
 use mir.Syntax.{w32}
 use mir.Val.{to_z, of_z}
 use Rattle.lift.specs.Limits.{load_ok}
-use Prim.Native.Nat.{◌-◌}
 use Rattle.bounds.proofs.Tests.{loads_not, loads_more, loads_all}
 use native.Mathlib.Omega.{arith}
 use borrow.Author.Rules.{rules}

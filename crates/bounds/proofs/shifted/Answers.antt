@@ -1,6 +1,6 @@
 -- `shifted`: load by load, then the new one.
 use mathlib.Core.Path.{◌≡◌, refl, ap, ◌∙◌}
-use Prim.Native.Nat.{◌+◌, ◌-◌}
+use Prim.Native.Nat.{◌+◌}
 use lib.IntN.{pos}
 use lib.ListN.{length, get_or, set, length-set}
 use mir.Val.{to_z, of_z}

@@ -6,7 +6,6 @@ use mir.Syntax.{w32}
 use mir.Val.{to_z, of_z}
 use Rattle.lift.specs.Limits.{load_ok, stored}
 use mathlib.Core.List.{map}
-use Prim.Native.Nat.{◌-◌}
 use Rattle.bounds.proofs.Tests.{filled_more, filled_all, load_within, stored_at}
 use native.Mathlib.Omega.{arith}
 use borrow.Author.Rules.{rules}

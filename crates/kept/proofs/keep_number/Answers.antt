@@ -1,0 +1,14 @@
+-- `kept::keep_number` meets its contract.
+use mathlib.Core.Path.{sym, ◌∙◌}
+use Rattle.codec.proofs.Areas.{splice_all}
+use Rattle.codec.proofs.Numbers.{length_bytes}
+use Rattle.kept.proofs.Kept.{kept_new, kept_old}
+use Rattle.kept.proofs.keep_number.Goals as goal
+
+pub returns-then-number-eq0 : goal.returns-then-number-eq0
+returns-then-number-eq0 c =
+    c.put_u64.ensures ∙ splice_all _ _ (length_bytes 8 _ ∙ sym c.requires)
+    ∙ sym (kept_new _ _ _ c.if-number-eq0.true)
+
+pub returns-else-number-eq0 : goal.returns-else-number-eq0
+returns-else-number-eq0 c = sym (kept_old _ _ _ c.if-number-eq0.false)
