@@ -193,13 +193,31 @@ class Turn:
         """Place variables bound by a signature or clause: name to place."""
         return {}
 
-    def turn_body(self, body, roots, at):
+    def resolve(self, body, at):
+        # a helper's argument
+        for h, (place, _) in self.helpers.items():
+            k = self.n.above(at, place) if at else None
+
+            def call(m, h=h, k=k, place=place):
+                if h in self.inline:
+                    return h + "¤"
+                if k is None:
+                    self.look(f"`{h}` is of a place that is not above")
+                    return f"{h} c"
+                wrapped = 1 if k and self.n.typed.get(at) else 0
+                arg = "c" + ".before" * (k + wrapped if k else 0)
+                return f"{h} {arg}"
+
+            body = re.sub(rf"(?<![\w.'-]){re.escape(h)} (?:\(c·?\)|c·?)(?![\w.'-])", call, body)
+        return body
+
+    def turn_body(self, body, roots, at, resolve=True):
         """roots: place variables; at: the goal's place, or a helper's."""
         # alias functions: (start X) -> X's root
         for _ in range(6):
             before = body
             for fn in self.aliases_fn:
-                body = re.sub(rf"(?<![\w.'-]){re.escape(fn)} ({WORD})(?:\.before)*(?![\w.'-])", r"\1", body)
+                body = re.sub(rf"(?<![\w.'-]){re.escape(fn)} (?!=)({WORD})(?:\.before)*(?![\w.'-])", r"\1", body)
             body = re.sub(rf"\(({'|'.join(map(re.escape, roots | {'c'}))})(?:\.before)*\)(?=\.|\))", r"\1", body)
             for fn in [*self.aliases_fn, *self.helpers]:
                 body = re.sub(rf"(?<![\w.'-])({re.escape(fn)}) \(({'|'.join(map(re.escape, roots | {'c'}))})\)", r"\1 \2", body)
@@ -228,7 +246,7 @@ class Turn:
             if not parts:
                 return "c" + ("·" if k else "")
             step = parts[0]
-            step = {"pre": "requires", "fits": "ranges"}.get(step, step)
+            step = {"pre": "requires", "fits": "ranges", "well-formed": "well_formed"}.get(step, step)
             if step == "args" and len(parts) > 1 and re.fullmatch(r"t\d+", parts[1]):
                 rows = self.clauses.get((self.crate, self.path.split("/")[-1]), [])
                 for r in rows:
@@ -289,21 +307,8 @@ class Turn:
         body = re.sub(r"\(record \{ sfits = c\.type_inv\.[\w.]+ \}\)", "(search rules)", body)
         body = re.sub(r"(?<!not-true _ )(?<!not-false _ )(?<![\w.'-])(c\.if-not-[^\s(){},;]+\.(?:true|false))(?![\w.'·-])", r"(ap not \1)", self.no_nots(body))
         body = re.sub(r"(\.(?:true|false))·", r"\1", body)
-        # a helper's argument
-        for h, (place, _) in self.helpers.items():
-            k = self.n.above(at, place) if at else None
-
-            def call(m, h=h, k=k, place=place):
-                if h in self.inline:
-                    return h + "¤"
-                if k is None:
-                    self.look(f"`{h}` is of a place that is not above")
-                    return f"{h} c"
-                wrapped = 1 if k and self.n.typed.get(at) else 0
-                arg = "c" + ".before" * (k + wrapped if k else 0)
-                return f"{h} {arg}"
-
-            body = re.sub(rf"(?<![\w.'-]){re.escape(h)} (?:\(c·?\)|c·?)(?![\w.'-])", call, body)
+        body = re.sub(r"((?:omega|grind|search|cc) \([^()]*?, )\((c\.[^()\s,]+(?:, c\.[^()\s,]+)+)\)", r"\1\2", body)
+        body = self.resolve(body, at) if resolve else body
         body = re.sub(rf"\(({WORD})¤\)", r"\1", body).replace("¤", "")
         if "c·" in body:
             self.look("a place by itself is passed on")
@@ -312,8 +317,10 @@ class Turn:
 
     def no_nots(self, body):
         """`not-true _ x`, where x says now what that lemma gave."""
-        body = re.sub(rf"\(not-(?:true|false) _ \(?(c\.if-not-{WORD}\.)(true|false)\)?\)", r"\1\2·", body)
-        return re.sub(rf"not-(?:true|false) _ \(?(c\.if-not-{WORD}\.)(true|false)\)?", r"\1\2·", body)
+        body = re.sub(rf"\(not-(?:true|false) _ \((c\.if-not-{WORD}\.)(true|false)\)\)", r"\1\2·", body)
+        body = re.sub(rf"\(not-(?:true|false) _ (c\.if-not-{WORD}\.)(true|false)\)", r"\1\2·", body)
+        body = re.sub(rf"not-(?:true|false) _ \((c\.if-not-{WORD}\.)(true|false)\)", r"\1\2·", body)
+        return re.sub(rf"not-(?:true|false) _ (c\.if-not-{WORD}\.)(true|false)(?![\w.'-])", r"\1\2·", body)
 
     def without_lets_of_clauses(self, body, names, at):
         """A let of clauses that have names now is written out where it is used."""
@@ -342,7 +349,7 @@ class Turn:
     def tuple_of(self, text, fields):
         return nested([f"{text}.{f}" for f in fields])
 
-    def with_lets(self, body, own=None):
+    def with_lets(self, body, at, own=None):
         """The body with a let for each helper that stands at no place of its own."""
         names, unf = [], []
         order = list(self.inline)
@@ -361,6 +368,7 @@ class Turn:
             unf += [u for u in self.inline[h][1] if u not in unf]
         lets = "".join(f"\n    {self.inline[h][0]} in" for h in names)
         if lets:
+            lets = re.sub(rf"\(({WORD})¤\)", r"\1", self.resolve(lets, at)).replace("¤", "")
             body = lets + ("\n    " + body.strip() if body.strip() else "")
         return body, unf
 
@@ -379,20 +387,20 @@ class Turn:
         typ, arg, more, body = m[1].strip(), m[2], m[3].split(), m[4]
         typ = re.sub(r"^\([^()]*tie\.[^()]*\)\s*→?\s*|^tie\.\S+(?: invariant-loop decreases-loop)? →\s*", "", typ)
         me = self.helpers.pop(name)
-        typ = self.turn_body(typ, {var, "c"}, place)
-        body = self.turn_body(body, {arg, "c"}, place)
+        typ = self.turn_body(typ, {var, "c"}, place, False)
+        body = self.turn_body(body, {arg, "c"}, place, False)
         self.helpers[name] = me
         lam = f"λ {' '.join(more)}. " if more else ""
         self.inline[name] = (f"let {name} : {typ} = {lam}{body.strip()}", unf)
         return True
 
-    def record_of(self, body, fields):
-        """A tuple as a record of clauses."""
-        m = re.match(r"(.*?=)(\s*)\((.*)\)\s*$", body, re.S)
-        if not m:
+    def items_of(self, term):
+        """The items of a parenthesised tuple, or None."""
+        term = term.strip()
+        if not term.startswith("(") or not term.endswith(")"):
             return None
         items, depth, cur = [], 0, ""
-        for ch in m[3]:
+        for ch in term[1:-1]:
             if ch in "({[":
                 depth += 1
             elif ch in ")}]":
@@ -406,55 +414,65 @@ class Turn:
                 cur += ch
         if cur.strip():
             items.append(cur)
-        while len(items) < len(fields) and len(items) > 1:
-            inner = items[-1].strip()
-            if not (inner.startswith("(") and inner.endswith(")")):
-                return None
-            more, depth, cur = [], 0, ""
-            for ch in inner[1:-1]:
-                depth += ch in "({["
-                depth -= ch in ")}]"
-                if ch == "," and depth == 0:
-                    more.append(cur)
-                    cur = ""
-                else:
-                    cur += ch
-            if cur.strip():
-                more.append(cur)
-            items = [*items[:-1], *more]
-        if len(items) != len(fields):
-            return None
-        rows = "; ".join(f"{f} = {i.strip()}" for f, i in zip(fields, items))
-        return f"{m[1]}{m[2]}record {{ {rows} }}"
+        return items
 
-    def record_by_let(self, out, fields):
-        """The last term of a chain of lets, a tuple or a pair that something else makes, as a record of clauses."""
-        for m in re.finditer(r" in(?=\s+\()", out):
-            depth = 0
-            for k, ch in enumerate(out[m.end() :]):
-                depth += ch in "({["
-                depth -= ch in ")}]"
-                if depth == 0 and not ch.isspace():
-                    break
-            if not out[m.end() + k + 1 :].strip():
-                got = self.record_of("=" + out[m.end() :], fields)
-                if got:
-                    return out[: m.end()] + got[1:]
-        lines = out.split("\n")
-        last = max((i for i, l in enumerate(lines) if re.search(r" in$", l)), default=-1)
-        if last >= 0:
-            head, body = "\n".join(lines[: last + 1]), "\n".join(lines[last + 1 :])
-            got = self.record_of("=" + body, fields)
-            if got:
-                return head + got[1:]
-        else:
-            m = re.match(r"(.*?=)(?=\s)(.*)", out, re.S)
-            head, body = m[1], m[2]
-        if body.strip().startswith("record"):
-            return out
-        at = ["both" + ".1" * i + (".0" if i < len(fields) - 1 else "") for i in range(len(fields))]
-        row = "; ".join(f"{f} = {a}" for f, a in zip(fields, at))
-        return f"{head}\n    let both = {body.strip()} in\n    record {{ {row} }}"
+    def clauses_in(self, term, fields):
+        items = self.items_of(term)
+        if items is None or len(items) < 2:
+            return None
+        while len(items) < len(fields):
+            more = self.items_of(items[-1])
+            if more is None or len(more) < 2:
+                return None
+            items = items[:-1] + more
+        if len(items) > len(fields):
+            n = len(fields) - 1
+            items = items[:n] + ["(" + ",".join(items[n:]) + ")"]
+        return items
+
+    def record_of(self, body, fields):
+        """A term's end, a tuple of clauses, as a record of them."""
+        m = re.match(r"(.*?=)(?=\s)(.*)", body, re.S)
+        if not m:
+            return None
+        head, text = m[1], m[2]
+        while True:
+            k = re.match(r"\s*let\s", text)
+            if not k:
+                break
+            depth = lets = 0
+            for t in re.finditer(r"[({\[]|[)}\]]|(?<![\w.'-])let(?=\s)|(?<![\w.'-])in(?=\s)", text):
+                w = t[0]
+                if w in "({[":
+                    depth += 1
+                elif w in ")}]":
+                    depth -= 1
+                elif depth == 0:
+                    lets += 1 if w == "let" else -1
+                    if lets == 0:
+                        head += text[: t.end()]
+                        text = text[t.end() :]
+                        break
+            else:
+                return None
+        last = text.strip()
+        if last.startswith("record"):
+            return body
+        items = self.clauses_in(last, fields)
+        nl = "\n    "
+        if items:
+            rows = ";".join(f"{nl}  {f} = {i.strip()}" for f, i in zip(fields, items))
+            return f"{head}{nl}record {{{rows};{nl}}}"
+        if re.match(r"(search|omega|grind|cc)\b", last):
+            rows = ";".join(f"{nl}  {f} = {last}" for f in fields)
+            return f"{head}{nl}record {{{rows};{nl}}}"
+        if re.match(r"(rw|simp|λ|elim|absurd|subst)\b|λ", last):
+            return None
+        rows = ";".join(f"{nl}  {f} = {self.walk_pair('both', i, len(fields))}" for i, f in enumerate(fields))
+        return f"{head}{nl}let both = {last} in{nl}record {{{rows};{nl}}}"
+
+    def walk_pair(self, text, i, n):
+        return text + ".1" * i + (".0" if i < n - 1 else "")
 
     def own_clauses(self, which):
         fn = self.path.split("/")[-1]
@@ -584,7 +602,7 @@ class Turn:
             want = want + ["?"] * len(params)
         row = dict(zip(params, want))
         body = b[m.end() :]
-        body = re.sub(r"(?<![\w.'₀-])(" + "|".join(sorted(map(re.escape, params), key=len, reverse=True)) + r")(?![\w'₀-])", lambda x: "l." + row[x[1]], body)
+        body = re.sub(r"(?<![\w.'₀-])(" + "|".join(sorted(map(re.escape, params), key=len, reverse=True)) + r")(?![\w'₀-])(?! = )", lambda x: "l." + row[x[1]], body)
         sig = re.search(r"^.*?\n?(?=(?:abbrev|pub) )", b, re.S)
         note = "\n".join(l for l in b.split("\n") if l.startswith("--"))
         unf = "\n".join(l for l in b.split("\n") if l.startswith("unfolding "))
@@ -617,7 +635,7 @@ class Turn:
             if new is None:
                 return None
         text = self.turn_body(body[m.end() :], {m[1]}, place)
-        text, more_unf = self.with_lets(text)
+        text, more_unf = self.with_lets(text, place)
         unf = unf + [f"unfolding {u}" for u in more_unf]
         out = f"{new} c{''.join(' ' + a for a in args)} ={text}"
         fields = next((f for k, f in self.n.row["asked"].items() if norm(k) in (key, norm(need)) or k == new), None)
@@ -629,8 +647,6 @@ class Turn:
             fields = self.callee(place, new)
         if fields:
             got = self.record_of(out, fields)
-            if got is None:
-                got = self.record_by_let(out, fields)
             if got is None:
                 self.look(f"`{new}` has the clauses {', '.join(fields)}")
             else:
@@ -663,7 +679,7 @@ class Turn:
         self.helpers[name] = me
         eq = re.search(rf"^{re.escape(name)} c[^=\n]* =(?=\s)", tail, re.M)
         if eq and self.inline:
-            body, unf = self.with_lets(tail[eq.end() :], name)
+            body, unf = self.with_lets(tail[eq.end() :], place, name)
             tail = tail[: eq.start()] + "".join(f"unfolding {u}\n" for u in unf) + eq[0] + body
         return (first[1] if first else head) + tail
 

@@ -19,7 +19,7 @@ use Rattle.tree.specs.Plan.{Plan}
 use Rattle.store.specs.World.{World}
 use Rattle.store.specs.Calls.{Outcome, room_world, drop_outcome, append_outcome}
 use Rattle.counts.specs.Counts.{counts_broken, one_more}
-use Rattle.counts.proofs.CountsDown.{one_more}
+use Rattle.counts.proofs.CountsDown.{one_more_lem}
 use Rattle.keeping.specs.Keeping.{Store, Counted, with_ground, is_lost, kept_or, keeping, counts_dropped, drop_kept}
 use Rattle.keeping.proofs.Numbers.{with_later}
 use Rattle.keeping.specs.Keeping.{with_lift, counts_shed, counts_appended, append_kept}
@@ -131,7 +131,7 @@ shed_keeps r g = rw (drops_is r g) (go (leb r.log.slots (length r.log.closed)) r
 
 put_counts : (g : Log) (l : Lift) → one_more (counts_held g) (stored l.load) ≡ counts_held (put_log g l)
 put_counts g l =
-    one_more (codes (retained g)) (stored l.load)
+    one_more_lem (codes (retained g)) (stored l.load)
     ∙ ap counts_of (sym (ap codes (put_last g l) ∙ map_append (λ (x : Lift). stored x.load) (retained g) (l ∷ [])))
 
 append_keeps : (h : History) (g : Good h) (l : Lift) → GoodLift l

@@ -1,3 +1,2 @@
 // Mathematics alone: the paper log (document 01, "Paper log").
 #![tactic(auto)]
-

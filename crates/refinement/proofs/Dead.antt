@@ -41,6 +41,7 @@ pub first_above : (closed : List (List Lift)) (ls : List Lift) {d n m k : ℕ} �
 first_above [] [] G.none G.none = le_refl _
 first_above [] (l ∷ ls) G.none (G.more a t) = a
 first_above ((l ∷ ls) ∷ rest) current (G.more (G.more a u) r) t = a
+first_above ([] ∷ rest) current s t = elim s [ ]
 
 -- where it moves from a to b, and the oldest serial from n to m
 pub least_up : (v : Form) {a b n m : ℕ} → a ≤ b → n ≤ m → least_by v (live_time v a) n ≤ least_by v (live_time v b) m

@@ -19,7 +19,7 @@ use Rattle.flash.specs.Chip.{slot_of}
 use Rattle.lift.specs.Limits.{load_ok}
 use Rattle.tree.proofs.Built.{buckets_of_lem, counted}
 use Rattle.skiplist.specs.declared.Pointer.{Pointer}
-use Rattle.skiplist.specs.Skip.{pointing, none, is_none, in_slots, level_of, heads_after, no_heads}
+use Rattle.skiplist.specs.Skip.{pointing, is_none, in_slots, level_of, heads_after, no_heads}
 use Rattle.store.specs.World.{live_time}
 use Rattle.store.specs.Bounds.{heads_ok, within_bounds}
 use Rattle.paper_log.specs.Log.{Lift, open_serial, codes}

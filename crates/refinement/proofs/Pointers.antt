@@ -126,6 +126,7 @@ live_below [] ls after current next s = le_refl _
 live_below ((l ∷ ms) ∷ before) ls after current next (G.more t r) =
     let a = among before ls after r in
     omega (arith, start_below (l ∷ ms) t (omega arith), segments_up a.earlier, start_below ls a.own a.some_lift)
+live_below ([] ∷ before) ls after current next s = elim s [ ]
 
 -- ---- the pointers of a history
 

@@ -3,7 +3,7 @@
 use mathlib.Core.Path.{◌≡◌, refl, sym, ap, subst, ◌∙◌}
 use mathlib.Core.Bool.{Bool, true, false, ◌&&◌}
 use mathlib.Core.List.{List, [], ◌∷◌, ◌++◌, map}
-use Prim.Native.Nat.{ℕ, zero, suc, ◌+◌, ◌-◌, ◌^◌, ◌≤◌, ◌<◌}
+use Prim.Native.Nat.{ℕ, zero, suc, ◌+◌, ◌^◌, ◌≤◌, ◌<◌}
 use native.Mathlib.Decide.{dec_lt}
 use native.Mathlib.Omega.{arith}
 use lib.Dec.{ltb}
@@ -141,6 +141,8 @@ among [] (l ∷ ls) after (G.more t r) = record { from = _; to = _; earlier = G.
 among ((k ∷ ks) ∷ before) ls after (G.more t r) =
     let a = among before ls after r in
     record { from = a.from; to = a.to; earlier = G.more t a.earlier; own = a.own; later = a.later; some_lift = a.some_lift }
+among [] [] after s = elim s [ ]
+among ([] ∷ before) ls after s = elim s [ ]
 
 pub built_among : (before : List (List Lift)) (ls : List Lift) (after : List (List Lift)) → AllBuilt (before ++ (ls ∷ after)) → Built ls
 built_among [] ls after b = b.0

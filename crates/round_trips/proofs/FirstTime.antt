@@ -29,6 +29,7 @@ unfolding joined
 first_retained [] [] s next = refl
 first_retained [] (l ∷ ls) s next = refl
 first_retained ((l ∷ ls) ∷ rest) current (G.more t r) next = refl
+first_retained ([] ∷ rest) current s next = elim s [ ]
 
 module _ (f : Form) (h : History) (g : Good h) where
   abbrev slots : ℕ

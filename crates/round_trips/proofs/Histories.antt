@@ -44,7 +44,7 @@ times_weaker [] G.none = G.none
 times_weaker {n} {m} (l ∷ ls) (G.more h t) =
     let e : l.time + 1 - 1 ≡ l.time + 0 = omega arith in
     let q : n - 1 ≤ l.time = omega arith in
-    G.more q (subst (λ (k : ℕ). Times 0 k ls (m - 1)) e (times_weaker ls t))
+    G.more q (subst (λ (k : ℕ). Times 0 k ls (m - 1)) e (times_weaker {n = l.time + 1} {m = m} ls t))
 
 segments_weaker : {n m : ℕ} {c : List (List Lift)} → Segments 1 n c m → Segments 0 (n - 1) c (m - 1)
 segments_weaker G.none = G.none
@@ -138,6 +138,7 @@ lowered [] (l ∷ ls) s (G.more h t) z =
 lowered ((l ∷ ls) ∷ rest) current {b = b} (G.more (G.more h t) r) u z =
     let q : 0 ≤ l.time = omega arith in
     record { begun = b; closed_from = G.more (G.more q t) r; current = u }
+lowered ([] ∷ rest) current s u z = elim s [ ]
 
 pub good_down : (h : History) → Good h → h.log.form ≡ New → Strict h → Good (into Old h)
 good_down h g e s = go h.gone refl

@@ -47,6 +47,7 @@ segments_behind ((l ∷ ls) ∷ c) rest {n} (G.more t s) r =
     (subst (λ (x : List Lift). rises_from n (times_of x) ≡ true) (append_assoc (l ∷ ls) (joined c) rest) r) in
     let a = segments_behind c rest s b.goes_on in
     record { segments = G.more b.times a.segments; goes_on = a.goes_on }
+segments_behind ([] ∷ c) rest s r = elim s [ ]
 
 -- the times of form 0, from the first retained lift on
 pub record StrictTimes (closed : List (List Lift)) (current : List Lift) (next : ℕ) : Type 0 where
@@ -78,6 +79,7 @@ strict_times ((l ∷ ls) ∷ c) current next {k = k} (G.more (G.more a u) s) t r
       closed_times_lem = G.more (G.more (le_refl _) b.times) d.segments;
       current_times = subst (λ (x : ℕ). Times 1 (k + 1) current x) (e (omega arith)) f.times;
     }
+strict_times ([] ∷ c) current next s t r e = elim s [ ]
 
 -- ---- to times that rise
 
@@ -94,6 +96,7 @@ segments_rise [] rest t e G.none f = f t e
 segments_rise ((l ∷ ls) ∷ c) rest t e (G.more a s) f =
     subst (λ (x : List Lift). rises_from t (times_of x) ≡ true) (sym (append_assoc (l ∷ ls) (joined c) rest))
     (times_rise (l ∷ ls) (joined c ++ rest) t e a (λ u q. segments_rise c rest u q s f))
+segments_rise ([] ∷ c) rest t e s f = elim s [ ]
 
 last_rise : (ls : List Lift) (t : ℕ) {n m : ℕ} → n ≡ t + 1 → Times 1 n ls m → rises_from t (times_of ls) ≡ true
 unfolding rises_from
@@ -107,3 +110,4 @@ strict_rises [] (l ∷ ls) s (G.more a t) = last_rise ls l.time refl t
 strict_rises ((l ∷ ls) ∷ c) current (G.more (G.more a u) s) t =
     subst (λ (x : List Lift). rises_from l.time (times_of x) ≡ true) (sym (append_assoc ls (joined c) current))
     (times_rise ls (joined c ++ current) l.time refl u (λ v q. segments_rise c current v q s (λ w p. last_rise current w p t)))
+strict_rises ([] ∷ c) current s t = elim s [ ]

@@ -20,7 +20,7 @@ use Rattle.questions.specs.Queries.{search_outcome, tally_outcome}
 use Rattle.paper_log.specs.Log.{Lift, Log, begun, open_serial, codes, retained}
 use Rattle.paper_log.specs.Calls as Paper
 use Rattle.refinement.specs.Inner.Image.{History, state_image, image}
-use Rattle.refinement.specs.Run.{Request, call_of, searched, replies, run_after, expected_all, AllTyped, NeverDamage}
+use Rattle.refinement.specs.Run.{Request, call_of, searched, replies, world_after, run_after, expected_all, AllTyped, NeverDamage}
 use Rattle.refinement.specs.Rules.{header_pages_most, AllKept}
 use Rattle.refinement.specs.ReadBack.{segments_in}
 use Rattle.refinement.proofs.AllCalls.{replies_are}
@@ -50,7 +50,8 @@ calls_reach : {slots : ℕ} {w : World} {g : Log} → Reaches slots w g → (rs 
     → Reaches slots (run_after w rs) (Paper.log_after g (map call_of rs))
 unfolding run_after Paper.log_after
 calls_reach r [] ok = r
-calls_reach r (c ∷ rs) ok = calls_reach (called r c ok.0) rs ok.1
+calls_reach {w = w} {g = g} r (c ∷ rs) ok =
+    calls_reach {w = world_after w c} {g = Paper.stepped g (call_of c)} (called r c ok.0) rs ok.1
 
 pub after_calls : (slots : ℕ) (v : Form) (nand nor : List ℕ) → Chips slots nand nor → (rs : List Request) → AllTyped rs
     → Reaches slots (run_after (format_outcome v nand nor slots).world rs) (Paper.log_after (begun v slots) (map call_of rs))

@@ -1,6 +1,5 @@
 -- `loads::loads_at` meets its contract: in each turn one load more is read.
 use mathlib.Core.Path.{◌≡◌, refl, sym, ◌∙◌}
-use Prim.Native.Nat.{◌-◌}
 use lib.IntN.{pos}
 use lib.ListN.{length, length-set}
 use Rattle.bounds.proofs.Tests.{filled_more, filled_all}

@@ -1,6 +1,5 @@
 -- `loads::put_loads` meets its contract: in each turn one load more is written.
 use mathlib.Core.Path.{◌≡◌, refl}
-use Prim.Native.Nat.{◌-◌}
 use lib.IntN.{pos}
 use lib.ListN.{length, get_or}
 use mir.Syntax.{w32}

@@ -1,5 +1,5 @@
 -- What a segment's lifts make of its pages, of NOR and of the buffers: each a function of the lifts. Assumes nothing.
-use Rattle.std.specs.Prelude.{cond, List, [], ◌∷◌, ◌++◌, map, ℕ, suc, ◌+◌, ◌-◌, ◌*◌, ◌/◌, eqb, ltb, ℤ, pos, length, drop, replicate}
+use Rattle.std.specs.Prelude.{cond, List, [], ◌∷◌, ◌++◌, map, ℕ, suc, ◌-◌, ◌*◌, ◌/◌, eqb, ltb, ℤ, pos, length, drop, replicate}
 use Rattle.std.specs.Int.Signed.{lt_z}
 use Rattle.codec.specs.Area.{part, repeated}
 use Rattle.flash.specs.Chip.{slot_of, erased_page}

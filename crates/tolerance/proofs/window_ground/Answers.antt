@@ -1,7 +1,6 @@
 -- `tolerance::window_ground` meets its contract: 4 and 5 of the plain search, then 17, then the rest.
 use mathlib.Core.Path.{◌≡◌, ap₂, ◌∙◌}
 use mathlib.Core.Bool.{cond, ◌||◌}
-use Prim.Native.Nat.{ℕ}
 use lib.Dec.{eqb, ltb}
 use mir.Syntax.{w32}
 use mir.ValLaws.{to_z-of_z}

@@ -1,0 +1,13 @@
+-- `export::pieces::count_bytes` meets its contract: what is counted and what is left come to the whole.
+use Prim.Native.Nat.{◌+◌}
+use Rattle.skiplist.specs.Skip.{serials_from}
+use Rattle.each_segment.specs.Inner.Turns.{turns_left, rows_left}
+use Rattle.export.proofs.Sizing.{Sizes}
+use Rattle.export.proofs.pieces.count_bytes.Given as goal
+
+abbrev pub invariant-loop-g : goal.invariant-loop-g
+invariant-loop-g l =
+    Sizes l.nand l.g.slots (serials_from l.g.oldest) l.q l.page (rows_left l.nand l.g.slots (serials_from l.g.oldest) l.q l.page l.initial.t) (l.g.current + 1) l.t l.bytes
+
+abbrev pub decreases-loop-g : goal.decreases-loop-g
+decreases-loop-g l = turns_left l.t

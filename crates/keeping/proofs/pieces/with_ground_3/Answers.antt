@@ -1,0 +1,10 @@
+-- `keeping::pieces::with_ground_3` meets its contract: the ground of the counts where it holds.
+use Rattle.bounds.specs.Grounds.{sooner}
+use Rattle.keeping.proofs.pieces.with_ground_3.Goals as goal
+
+pub returns-then-broken : goal.returns-then-broken
+returns-then-broken c = rw c.if-broken.true c.sooner.ensures
+
+pub returns : goal.returns
+unfolding sooner
+returns c = rw c.if-broken.false
