@@ -40,6 +40,8 @@ def clauses_of(crates):
             for n in names:
                 if n.endswith(".rt"):
                     text = read(os.path.join(folder, n))
+                    module = os.path.relpath(os.path.join(folder, n), os.path.join("crates", crate, "src"))[:-3].replace("/", "::")
+                    module = "" if module in ("lib", "main") else module.removesuffix("::mod")
                     for m in re.finditer(r"\bfn (\w+)(.*?)(?=^\s*\{\s*$|;\s*$)", text, re.S | re.M):
                         head = m[2]
                         pre = re.findall(r"^\s*requires\*? ?(\w*) ?\{", head, re.M)
@@ -47,7 +49,7 @@ def clauses_of(crates):
                         muts = self_and_wide(head)
                         params = re.match(r"\s*(?:<[^>]*>)?\s*\((.*?)\)\s*(?:->|requires|ensures|\n)", head + "\n", re.S)
                         params = re.findall(r"(?:^|[(,])\s*(?:mut )?&?(?:mut )?(\w+)(?=\s*:|\s*,|\s*$)", params[1], re.M) if params else []
-                        found.setdefault((crate, m[1]), []).append((pre, post, params, muts))
+                        found.setdefault((crate, m[1]), []).append((pre, post, params, muts, module))
     return found
 
 
@@ -88,6 +90,14 @@ def picked(fields, rest):
             return None
         i += 1
     return [fields[i], *rest] if i == len(fields) - 1 else None
+
+
+def one_line(unf):
+    """One unfolding line for several."""
+    names = []
+    for u in unf:
+        names += [n for n in u.replace("unfolding", " ").split() if n not in names]
+    return ["unfolding " + " ".join(names)] if names else []
 
 
 def nested(texts):
@@ -282,6 +292,8 @@ class Turn:
             if len(parts) > 2 and parts[1] in ("new", "auto") and parts[2].isdigit():
                 fn = (self.n.places[place][3] or "").split("::")
                 rows = self.clauses.get((fn[0], fn[-1]), [])
+                rows = [r for r in rows if "::".join(fn[1:-1]) in (r[4], "")] if len(rows) > 1 else rows
+                rows = [r for r in rows if r[4] == "::".join(fn[1:-1])] or rows
                 muts = rows[0][3] if len(rows) == 1 else []
                 k = 0
                 while len(parts) > 3 and parts[2] == "1":
@@ -651,7 +663,7 @@ class Turn:
                 self.look(f"`{new}` has the clauses {', '.join(fields)}")
             else:
                 out = got
-        return "\n".join([*note, f"pub {new} : goal.{new}", *unf, out])
+        return "\n".join([*note, f"pub {new} : goal.{new}", *one_line(unf), out])
 
     def callee(self, place, new):
         fn = new.split("-")[0]
@@ -681,6 +693,7 @@ class Turn:
         if eq and self.inline:
             body, unf = self.with_lets(tail[eq.end() :], place, name)
             tail = tail[: eq.start()] + "".join(f"unfolding {u}\n" for u in unf) + eq[0] + body
+            tail = re.sub(r"(?m)^unfolding (.*)\nunfolding (.*)$", r"unfolding \1 \2", tail)
         return (first[1] if first else head) + tail
 
 

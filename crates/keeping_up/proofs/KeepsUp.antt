@@ -65,7 +65,7 @@ module _ (slots : ℕ) (least : 2 ≤ slots) (most : slots ≤ 4096) where
   all_kept r [] ok = record { answers = refl; store = refl; tally = tally_held r }
   all_kept {w} {g} r (c ∷ calls) ok =
       let rest : Kept (world_after w c) (Paper.stepped g (call_of c)) calls =
-          all_kept {w = world_after w c} {g = Paper.stepped g (call_of c)} (called r c ok.0) calls ok.1 in
+      all_kept {w = world_after w c} {g = Paper.stepped g (call_of c)} (called r c ok.0) calls ok.1 in
       let after = one_after r c ok.0 in
       record {
         answers = ap₂ {C = List Reply} (λ a b. a ∷ b) (one_reply r c ok.0) (ap (λ (s : Store). kept_replies s calls) after ∙ rest.answers);

@@ -29,9 +29,9 @@ module _ {X Y : Type 0} (R : X → Y → Type 0) (before : X → ℕ) (number : 
   line_number_lem x y r none = ap (λ n. cond (eqb n 0) bad_form n) (same_before x y r)
   line_number_lem x y r (some t) = same_number x y r t
 
-  line_after : (x : X) (y : Y) → R x y → (o : Option Told) → R (line_after before number after x o) (line_after before' number' after' y o)
-  line_after x y r none = r
-  line_after x y r (some t) = related x y r t
+  line_after_lem : (x : X) (y : Y) → R x y → (o : Option Told) → R (line_after before number after x o) (line_after before' number' after' y o)
+  line_after_lem x y r none = r
+  line_after_lem x y r (some t) = related x y r t
 
   lines_alike : (line : ℕ) (ls : List (List ℕ)) (x : X) (y : Y) → R x y
       → Alike R (import_lines before number after line ls x) (import_lines before' number' after' line ls y)
@@ -41,7 +41,7 @@ module _ {X Y : Type 0} (R : X → Y → Type 0) (before : X → ℕ) (number : 
       let o : Option Told = record_in l in
       let n = line_number_lem x y r o in
       rw n (either (eqb (line_number before' number' after' y o) 0) _ _ _ _
-      (lines_alike (suc line) ls (line_after before number after x o) (line_after before' number' after' y o) (line_after x y r o))
+      (lines_alike (suc line) ls (line_after before number after x o) (line_after before' number' after' y o) (line_after_lem x y r o))
       (stopped _ _ line x y refl r))
 
   pub texts_alike : (text : List ℕ) (x : X) (y : Y) → R x y → Alike R (import_text before number after text x) (import_text before' number' after' text y)

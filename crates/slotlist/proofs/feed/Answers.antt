@@ -14,12 +14,12 @@ loop-i-preserved g c =
       (
         l.1.0,
         (
-          c.accept.ensures.0,
+          c.accept-s.ensures.0,
           (
-            c.accept.auto.nand ∙ m.0,
+            c.accept-s.auto.nand ∙ m.0,
             (
-              c.accept.auto.nor ∙ m.1.0,
-              typed_step _ _ _ _ c.loop-i-test.true c.accept.ensures.1 ∙ m.1.1,
+              c.accept-s.auto.nor ∙ m.1.0,
+              typed_step _ _ _ _ c.loop-i-test.true c.accept-s.ensures.1 ∙ m.1.1,
             ),
           ),
         ),

@@ -33,10 +33,10 @@ loop-g-preserved c =
     let total = many_of c.args.lifts.now c.args.tail.now c.args.g c.args.e c.args.set in
     let step : ℕ → Type 0 = λ m. Sorts c.args.lifts.now c.args.tail.now c.args.g c.args.e total c.next-x.result.rest m in
     elim c.if-is_between.branch [
-    | then-is_between w ↦ subst step (sym w.n-is)
-    (sorts_in _ _ _ _ c.requires.recorded _ _ _ c.loop-g.invariant _ c.next-x.ensures.0 c.if-not-found.false _ c.code_in-code.ensures
-    (sym c.is_between.ensures ∙ w.if-is_between.true))
-    | else-is_between w ↦ subst step (sym w.n-is)
-    (sorts_out _ _ _ _ c.requires.recorded _ _ _ c.loop-g.invariant _ c.next-x.ensures.0 c.if-not-found.false _ c.code_in-code.ensures
-    (sym c.is_between.ensures ∙ w.if-is_between.false))
+      | then-is_between w ↦ subst step (sym w.n-is)
+          (sorts_in _ _ _ _ c.requires.recorded _ _ _ c.loop-g.invariant _ c.next-x.ensures.0 c.if-not-found.false _ c.code_in-code.ensures
+          (sym c.is_between.ensures ∙ w.if-is_between.true))
+      | else-is_between w ↦ subst step (sym w.n-is)
+          (sorts_out _ _ _ _ c.requires.recorded _ _ _ c.loop-g.invariant _ c.next-x.ensures.0 c.if-not-found.false _ c.code_in-code.ensures
+          (sym c.is_between.ensures ∙ w.if-is_between.false))
     ]

@@ -1,9 +1,9 @@
 -- `tolerant::pieces::pick_certain` meets its contract: the rows picked and those that are left come to the whole.
 use mathlib.Core.Path.{sym, ◌∙◌}
-use mathlib.Core.Logic.{⊎_elim}
 use Prim.Native.Nat.{◌-◌}
 use native.Mathlib.Omega.{arith}
 use Rattle.tolerant.proofs.Picking.{picks_none, picks_over, row_inside, picks_out, row_room, picks_in}
+use Rattle.tolerant.proofs.pieces.pick_certain.Goals.{then-is_between, else-is_between}
 use Rattle.tolerant.proofs.pieces.pick_certain.Goals as goal
 
 pub loop-i-init : goal.loop-i-init
@@ -22,12 +22,12 @@ pub loop-i-preserved : goal.loop-i-preserved
 loop-i-preserved c =
     let h = c.loop-i-test.true in
     let p = c.loop-i.invariant in
-    ⊎_elim
-    (λ w. picks_in _ _ _ c.requires.record_width_in_bounds _ _ _ _ _ p h _ c.code_in-code.ensures (sym c.is_between.ensures ∙ w.0.taken) _ _
-    (w.5 ∙ w.2.ensures) w.6)
-    (λ w. picks_out _ _ _ c.requires.record_width_in_bounds _ _ _ _ _ p h _ c.code_in-code.ensures (sym c.is_between.ensures ∙ w.0.left) _ _ w.1
-    w.2)
-    c.if-is_between.branch
+    elim c.if-is_between.branch [
+      | then-is_between w ↦ picks_in _ _ _ c.requires.record_width_in_bounds _ _ _ _ _ p h _ c.code_in-code.ensures (sym c.is_between.ensures ∙ w.if-is_between.true) _ _
+          (w.certain-is ∙ w.put_row.ensures) w.to-is
+      | else-is_between w ↦ picks_out _ _ _ c.requires.record_width_in_bounds _ _ _ _ _ p h _ c.code_in-code.ensures (sym c.is_between.ensures ∙ w.if-is_between.false) _ _ w.certain-is
+          w.to-is
+    ]
 
 pub shape_of-certain : goal.shape_of-certain
 shape_of-certain c = c.loop-i.invariant.long
