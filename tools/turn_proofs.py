@@ -655,8 +655,6 @@ class Turn:
             pass
         elif new == "returns" or re.match(r"returns-", new):
             fields = self.own_clauses(1)
-        elif new.endswith("requires") or "-requires" in new:
-            fields = self.callee(place, new)
         if fields:
             got = self.record_of(out, fields)
             if got is None:
