@@ -1,0 +1,31 @@
+-- `area_import::append_line` meets its contract: a bad record's number, or the append.
+use mathlib.Core.Path.{◌≡◌, ap, ◌∙◌}
+use lib.IntN.{ℤ}
+use mir.Syntax.{w32, w64}
+use mir.Val.{to_z, of_z}
+use borrow.Author.Tests.{not-true, not-false}
+use Rattle.store.specs.Inner.Pieces.{bounds_ground}
+use Rattle.areas.specs.Areas.{append_called}
+use Rattle.area_import.proofs.Left.{left_told}
+use borrow.Author.Rules.{rules}
+use mathlib.Core.Bool.{not}
+use Rattle.area_import.proofs.append_line.Goals as goal
+
+pub returns-then-not-good : goal.returns-then-not-good
+unfolding bounds_ground
+returns-then-not-good c =
+    let a = c.args in
+    rw (not-true a.l.good (ap not c.if-not-good.true), c.bad_number.ensures, c.ground-n.ensures)
+
+pub returns : goal.returns
+returns c =
+    let load_is : to_z w64 (of_z w64 c.args.l.load) ≡ c.args.l.load = search rules in
+    let passed : to_z w32 (of_z w32 c.fitted-load.result) ≡ c.fitted-load.result = search rules in
+    let a = c.args in
+    let f = rw load_is at c.fitted-load.ensures in
+    rw (not-false a.l.good (ap not c.if-not-good.false))
+    (c.append.ensures
+    ∙ ap (λ (z : ℤ). append_called a.state.now a.nand.now a.nor.now a.slots a.l.time z c.note_of-note.result)
+    passed
+    ∙ left_told a.state.now a.nand.now a.nor.now a.slots a.l.time a.l.load c.fitted-load.result a.l.member
+    c.note_of-note.result f c.note_of-note.ensures)
