@@ -81,7 +81,7 @@ root_split = alone (four 0 0 0 0) (four 241 73 2 0) (four 69 197 0 0) (two 255 1
 abbrev pub narrow : List ℕ
 narrow = alone (four 68 197 0 0) (four 69 197 0 0) (four 255 255 255 255) (two 255 255) 13
 
--- where a load goes in a tree's bytes: `plan_on bytes buckets count last_loads_lem load`
+-- where a load goes in a tree's bytes: `plan_on bytes buckets count last_loads load`
 unfoldable pub plans : List (Plan × Plan)
 plans =
     -- the first lift makes the root
