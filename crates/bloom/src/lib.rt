@@ -99,7 +99,8 @@ pub fn fragment_of(sections: usize) -> usize
     ensures { result ≡ fragment_length sections }
 {
     let l = 512 / sections;
-    if l < 128 { l } else { 128 }
+    let is_short = l < 128;
+    if is_short { l } else { 128 }
 }
 
 // Where a fragment from `from` on ends: after l bytes, or at the section's end.

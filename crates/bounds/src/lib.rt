@@ -38,7 +38,8 @@ pub fn sooner(a: u8, b: u8) -> u8
     if b == 0 {
         return a;
     }
-    if b < a {
+    let comes_first = b < a;
+    if comes_first {
         return b;
     }
     a

@@ -74,7 +74,8 @@ fn lifts_less(lifts: &[u8], count: usize, counts: [u32; PLATES]) -> Down
         let ok = lift::code_ok(code);
         let i = plate::plate_of_code(code) as usize;
         let n = c[i];
-        if !(ok & (0 < n)) {
+        let can_go = ok & (0 < n);
+        if !can_go {
             return Down {
                 good: false,
                 counts: c,

@@ -74,7 +74,8 @@ fn import_lines(
         let l = csv_text::line_at(text, at);
         let a = append_line(state, nand, nor, slots, l);
         state = a.state;
-        if a.number != 0 {
+        let is_refused = a.number != 0;
+        if is_refused {
             return ended(a.number, line, state);
         }
         at = l.next;

@@ -80,7 +80,8 @@ fn join_lift(
         free.old area.old j free.new area.new result }
 {
     let member = lift::member_in(lifts, tail, first, p);
-    if member == 0 {
+    let is_nobody = member == 0;
+    if is_nobody {
         return j;
     }
     let time = lift::time_in(lifts, tail, first, p);

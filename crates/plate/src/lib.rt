@@ -78,7 +78,8 @@ pub fn plate_of(place: u64, load: i32) -> Lookup
             plate: 0,
         };
     }
-    if stacks::CARRIED <= place {
+    let is_beyond = stacks::CARRIED <= place;
+    if is_beyond {
         return Lookup {
             number: NO_SUCH_STACK,
             plate: 0,

@@ -189,7 +189,8 @@ impl State {
     {
         let a = pieces::plan_append(self, nand, nor, slots, time, load);
         let m = a.number;
-        if m != 0 {
+        let is_refused = m != 0;
+        if is_refused {
             return Answer {
                 number: m,
                 state: self,

@@ -29,7 +29,8 @@ pub fn window_ground(t1: u64, t2: u64, k1: i32, k2: i32, d: u64) -> u8
     if (n == 4) | (n == 5) {
         return n;
     }
-    if TOLERANCE_MOST < d {
+    let is_too_tolerant = TOLERANCE_MOST < d;
+    if is_too_tolerant {
         return TOO_TOLERANT;
     }
     n
@@ -48,7 +49,8 @@ pub fn widened(k1: i32, k2: i32, d: u64) -> Ends
         low = least - by;
     }
     let mut high = lift::stored(k2) + by;
-    if lift::CODE_MAX < high {
+    let is_past = lift::CODE_MAX < high;
+    if is_past {
         high = lift::CODE_MAX;
     }
     Ends { low, high }

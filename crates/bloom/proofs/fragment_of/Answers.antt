@@ -4,10 +4,10 @@ use native.Mathlib.Nat.{min-eq_left, min-eq_right, le_of_lt}
 use Rattle.bloom.specs.Pages.{fragment_length}
 use Rattle.bloom.proofs.fragment_of.Goals as goal
 
-pub returns-then-l-lt128 : goal.returns-then-l-lt128
+pub returns-then-is_short : goal.returns-then-is_short
 unfolding fragment_length
-returns-then-l-lt128 c = sym (min-eq_right (le_of_lt c.if-l-lt128.true))
+returns-then-is_short c = sym (min-eq_right (le_of_lt c.if-is_short.true))
 
-pub returns-else-l-lt128 : goal.returns-else-l-lt128
+pub returns-else-is_short : goal.returns-else-is_short
 unfolding fragment_length
-returns-else-l-lt128 c = sym (min-eq_left c.if-l-lt128.false)
+returns-else-is_short c = sym (min-eq_left c.if-is_short.false)

@@ -11,10 +11,10 @@ pub returns-then-b-eq0 : goal.returns-then-b-eq0
 unfolding Grounds.sooner
 returns-then-b-eq0 c = rw (ne_eqb _ _ c.if-a-eq0.false, eq-eqb _ _ c.if-b-eq0.true)
 
-pub returns-then-b-a : goal.returns-then-b-a
+pub returns-then-comes_first : goal.returns-then-comes_first
 unfolding Grounds.sooner
-returns-then-b-a c = rw (ne_eqb _ _ c.if-a-eq0.false, ne_eqb _ _ c.if-b-eq0.false, lt-ltb _ _ c.if-b-a.true)
+returns-then-comes_first c = rw (ne_eqb _ _ c.if-a-eq0.false, ne_eqb _ _ c.if-b-eq0.false, lt-ltb _ _ c.if-comes_first.true)
 
 pub returns : goal.returns
 unfolding Grounds.sooner
-returns c = rw (ne_eqb _ _ c.if-a-eq0.false, ne_eqb _ _ c.if-b-eq0.false, le-ltb _ _ c.if-b-a.false)
+returns c = rw (ne_eqb _ _ c.if-a-eq0.false, ne_eqb _ _ c.if-b-eq0.false, le-ltb _ _ c.if-comes_first.false)

@@ -26,14 +26,14 @@ bounds-c-i c =
     let small : c.plate_of_code-i.result < 22 = rw c.plate_of_code-i.ensures (omega (arith, plate_small (load_of c.record_code-code.result))) in
     omega (arith, small)
 
-pub returns-then-not-ok-n : goal.returns-then-not-ok-n
-returns-then-not-ok-n c =
+pub returns-then-not-can_go : goal.returns-then-not-can_go
+returns-then-not-can_go c =
     let a = c.args in
     down_stops (λ q. code_at a.lifts.now (q * 32)) a.count c.loop-p.p c.loop-p.c _ _ _ c.record_code-code.ensures c.plate_of_code-i.ensures refl (omega arith)
-    c.code_ok-ok.result c.code_ok-ok.ensures (ap not c.if-not-ok-n.true) ∙ c.loop-p.invariant.1
+    c.code_ok-ok.result c.code_ok-ok.ensures (ap not c.if-not-can_go.true) ∙ c.loop-p.invariant.1
 
 pub overflow_sub-c : goal.overflow_sub-c
-overflow_sub-c c = some_counted _ c.code_ok-ok.result (ap not c.if-not-ok-n.false)
+overflow_sub-c c = some_counted _ c.code_ok-ok.result (ap not c.if-not-can_go.false)
 
 pub bounds-c-i-in-loop-p : goal.bounds-c-i-in-loop-p
 bounds-c-i-in-loop-p c =
@@ -45,7 +45,7 @@ loop-p-preserved c =
     let a = c.args in (
       omega arith,
       down_goes_on (λ q. code_at a.lifts.now (q * 32)) a.count c.loop-p.p c.loop-p.c _ _ _ c.record_code-code.ensures c.plate_of_code-i.ensures refl (omega arith)
-          c.code_ok-ok.result c.code_ok-ok.ensures (ap not c.if-not-ok-n.false) ∙ c.loop-p.invariant.1,
+          c.code_ok-ok.result c.code_ok-ok.ensures (ap not c.if-not-can_go.false) ∙ c.loop-p.invariant.1,
     )
 
 pub returns : goal.returns

@@ -18,18 +18,18 @@ loop-at-init c = (begins _ _ _ _ _ _ c.requires.0 c.requires.1, refl, refl)
 pub line_at-l-requires : goal.line_at-l-requires
 line_at-l-requires c = c.loop-at-test.true
 
-pub shape_of-nand-then-a-ne0 : goal.shape_of-nand-then-a-ne0
-shape_of-nand-then-a-ne0 c = c.append_line-a.auto.nand ∙ c.loop-at.invariant.1
+pub shape_of-nand-then-is_refused : goal.shape_of-nand-then-is_refused
+shape_of-nand-then-is_refused c = c.append_line-a.auto.nand ∙ c.loop-at.invariant.1
 
-pub shape_of-nor-then-a-ne0 : goal.shape_of-nor-then-a-ne0
-shape_of-nor-then-a-ne0 c = c.append_line-a.auto.nor ∙ c.loop-at.invariant.2
+pub shape_of-nor-then-is_refused : goal.shape_of-nor-then-is_refused
+shape_of-nor-then-is_refused c = c.append_line-a.auto.nor ∙ c.loop-at.invariant.2
 
-pub returns-then-a-ne0 : goal.returns-then-a-ne0
-returns-then-a-ne0 c =
+pub returns-then-is_refused : goal.returns-then-is_refused
+returns-then-is_refused c =
     let e = c.append_line-a.ensures in
     ap (λ (r : Imported). imported r.number r.line (world c.append_line-a.new.nand c.append_line-a.new.nor r.state)) c.ended.ensures
     ∙ ends_here _ _ _ _ _ _ _ _ c.loop-at.invariant.0 c.loop-at-test.true _ c.line_at-l.ensures _ _
-    (ap (λ (o : Outcome). o.number) e) (ap (λ (o : Outcome). o.world) e) (λ t f. append_keeps _ _ _ _ _ f) c.if-a-ne0.true
+    (ap (λ (o : Outcome). o.number) e) (ap (λ (o : Outcome). o.world) e) (λ t f. append_keeps _ _ _ _ _ f) c.if-is_refused.true
 
 pub overflow_add-line : goal.overflow_add-line
 overflow_add-line c =
@@ -40,7 +40,7 @@ pub loop-at-smaller : goal.loop-at-smaller
 loop-at-smaller c =
     let e = c.append_line-a.ensures in
     let good = record_good _ _ _ _ _ _ _ _ c.loop-at.invariant.0 c.loop-at-test.true _ c.line_at-l.ensures _ _
-    (ap (λ (o : Outcome). o.number) e) (ap (λ (o : Outcome). o.world) e) (omega (arith, c.if-a-ne0.false)) in
+    (ap (λ (o : Outcome). o.number) e) (ap (λ (o : Outcome). o.world) e) (omega (arith, c.if-is_refused.false)) in
     let r = c.line_at-l.ensures in
     omega (arith, r.further good, r.inside good, c.loop-at-test.true)
 
@@ -48,7 +48,7 @@ pub loop-at-preserved : goal.loop-at-preserved
 loop-at-preserved c =
     let e = c.append_line-a.ensures in (
       goes_in _ _ _ _ _ _ _ _ c.loop-at.invariant.0 c.loop-at-test.true _ c.line_at-l.ensures _ _
-          (ap (λ (o : Outcome). o.number) e) (ap (λ (o : Outcome). o.world) e) (omega (arith, c.if-a-ne0.false)),
+          (ap (λ (o : Outcome). o.number) e) (ap (λ (o : Outcome). o.world) e) (omega (arith, c.if-is_refused.false)),
       c.append_line-a.auto.nand ∙ c.loop-at.invariant.1,
       c.append_line-a.auto.nor ∙ c.loop-at.invariant.2,
     )

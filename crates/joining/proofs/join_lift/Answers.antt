@@ -11,12 +11,12 @@ use Rattle.joining.specs.Inner.Passing.{sought_for}
 use Rattle.joining.proofs.Lifts.{readable_on, lift_nobody, lift_alone, lift_joined}
 use Rattle.joining.proofs.join_lift.Goals as goal
 
-pub returns-then-member-eq0 : goal.returns-then-member-eq0
-returns-then-member-eq0 c =
+pub returns-then-is_nobody : goal.returns-then-is_nobody
+returns-then-is_nobody c =
     let member_is : let a = c.args in
     member_at (record_in a.lifts.now a.tail.now a.first a.p) 0 ≡ c.member_in-member.result = member_of_record c.args.lifts.now c.args.tail.now c.args.first c.args.p c.requires.p_in_bounds.0 c.requires.p_in_bounds.1 ∙ sym
     c.member_in-member.ensures in
-    lift_nobody _ _ _ _ _ _ _ _ _ _ (member_is ∙ c.if-member-eq0.true) c.requires.readable_from
+    lift_nobody _ _ _ _ _ _ _ _ _ _ (member_is ∙ c.if-is_nobody.true) c.requires.readable_from
 
 pub take-k-requires : goal.take-k-requires
 take-k-requires c =
@@ -39,7 +39,7 @@ returns-then-not-found c =
           c.requires.p_in_bounds.1,
       ← c.time_in-time.ensures,
     ) in
-    let named : let a = c.args in member_at (record_in a.lifts.now a.tail.now a.first a.p) 0 ≡ 0 → ⊥ = λ e. c.if-member-eq0.false (sym member_is ∙ e) in
+    let named : let a = c.args in member_at (record_in a.lifts.now a.tail.now a.first a.p) 0 ≡ 0 → ⊥ = λ e. c.if-is_nobody.false (sym member_is ∙ e) in
     lift_alone _ _ _ _ _ _ _ named _ sought _ _ _ _ (c.first_left-from.ensures.2 _) _ c.take-k.ensures _ _
     c.if-not-found.true
 
@@ -88,7 +88,7 @@ returns c =
           c.requires.p_in_bounds.1,
       ← c.time_in-time.ensures,
     ) in
-    let named : let a = c.args in member_at (record_in a.lifts.now a.tail.now a.first a.p) 0 ≡ 0 → ⊥ = λ e. c.if-member-eq0.false (sym member_is ∙ e) in
+    let named : let a = c.args in member_at (record_in a.lifts.now a.tail.now a.first a.p) 0 ≡ 0 → ⊥ = λ e. c.if-is_nobody.false (sym member_is ∙ e) in
     lift_joined _ _ _ _ _ _ _ named _ sought _ _ _ _ (c.first_left-from.ensures.2 _) _ c.take-k.ensures _ _ _
     c.if-not-found.false
     (rw (c.lifts_of-lifts2.ensures, c.records_of-at.ensures) at c.put_pair.ensures)

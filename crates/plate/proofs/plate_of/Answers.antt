@@ -10,10 +10,10 @@ returns-then-not-ok c =
     let e = rw (to_z-of_z w32 c.args.load c.ranges.load) at c.load_ok-ok.ensures in
     past_limit c.args.place c.args.load (sym e ∙ c.if-not-ok.true)
 
-pub returns-then-place-ge-CARRIED : goal.returns-then-place-ge-CARRIED
-returns-then-place-ge-CARRIED c =
+pub returns-then-is_beyond : goal.returns-then-is_beyond
+returns-then-is_beyond c =
     let e = rw (to_z-of_z w32 c.args.load c.ranges.load) at c.load_ok-ok.ensures in
-    no_such_stack c.args.place c.args.load (sym e ∙ c.if-not-ok.false) c.if-place-ge-CARRIED.true
+    no_such_stack c.args.place c.args.load (sym e ∙ c.if-not-ok.false) c.if-is_beyond.true
 
 pub stored-code-requires : goal.stored-code-requires
 stored-code-requires c = sym c.load_ok-ok.ensures ∙ c.if-not-ok.false
@@ -24,4 +24,4 @@ returns c =
     let e = rw z at c.load_ok-ok.ensures in
     let ec = rw z at c.stored-code.ensures in
     answered c.args.place c.args.load (sym e ∙ c.if-not-ok.false) _ _
-    c.if-place-ge-CARRIED.false ec c.plate_on-plate.ensures
+    c.if-is_beyond.false ec c.plate_on-plate.ensures

@@ -17,8 +17,8 @@ overflow_add-high c =
     let e : c.stored.result ≡ stored c.args.k2 = c.stored.ensures ∙ ap stored (to_z-of_z w32 c.args.k2 c.ranges.k2) in
     omega (arith, e, within_limits c.args.k2 c.requires.1)
 
-pub returns-then-high-gt-CODE_MAX : goal.returns-then-high-gt-CODE_MAX
-returns-then-high-gt-CODE_MAX c =
+pub returns-then-is_past : goal.returns-then-is_past
+returns-then-is_past c =
     let e : c.stored.result ≡ stored c.args.k2 = c.stored.ensures ∙ ap stored (to_z-of_z w32 c.args.k2 c.ranges.k2) in
     let first : c.stored-least.result ≡ stored c.args.k1 = c.stored-least.ensures ∙ ap stored (to_z-of_z w32 c.args.k1 c.ranges.k1) in
     let f = low_end_code c.args.k1 c.args.d c.requires.0 in
@@ -30,8 +30,8 @@ returns-then-high-gt-CODE_MAX c =
     let over = lt-leb (stored c.args.k2 + c.args.d) 150001 (omega arith) in
     record { low = low; high = rw (high_end_code c.args.k2 c.args.d c.requires.1, over) }
 
-pub returns-else-high-gt-CODE_MAX : goal.returns-else-high-gt-CODE_MAX
-returns-else-high-gt-CODE_MAX c =
+pub returns-else-is_past : goal.returns-else-is_past
+returns-else-is_past c =
     let e : c.stored.result ≡ stored c.args.k2 = c.stored.ensures ∙ ap stored (to_z-of_z w32 c.args.k2 c.ranges.k2) in
     let first : c.stored-least.result ≡ stored c.args.k1 = c.stored-least.ensures ∙ ap stored (to_z-of_z w32 c.args.k1 c.ranges.k1) in
     let f = low_end_code c.args.k1 c.args.d c.requires.0 in

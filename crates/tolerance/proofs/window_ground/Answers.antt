@@ -19,14 +19,14 @@ returns-then-n c =
     ∙ ap₂ (query_ground c.args.t1 c.args.t2) (to_z-of_z w32 c.args.k1 c.ranges.k1) (to_z-of_z w32 c.args.k2 c.ranges.k2)) in
     rw (in_order, c.if-n.true)
 
-pub returns-then-d-gt-TOLERANCE_MOST : goal.returns-then-d-gt-TOLERANCE_MOST
-returns-then-d-gt-TOLERANCE_MOST c =
+pub returns-then-is_too_tolerant : goal.returns-then-is_too_tolerant
+returns-then-is_too_tolerant c =
     let in_order : tolerance_ground c.args.t1 c.args.t2 c.args.k1 c.args.k2 c.args.d
     ≡ cond (eqb c.query_ground-n.result 4 || eqb c.query_ground-n.result 5) c.query_ground-n.result (cond (ltb tolerance_most c.args.d) 17 c.query_ground-n.result) =
     ground_in_order c.args.t1 c.args.t2 c.args.k1 c.args.k2 c.args.d c.query_ground-n.result
     (c.query_ground-n.ensures
     ∙ ap₂ (query_ground c.args.t1 c.args.t2) (to_z-of_z w32 c.args.k1 c.ranges.k1) (to_z-of_z w32 c.args.k2 c.ranges.k2)) in
-    rw (in_order, c.if-n.false, lt-ltb 1000 c.args.d c.if-d-gt-TOLERANCE_MOST.true)
+    rw (in_order, c.if-n.false, lt-ltb 1000 c.args.d c.if-is_too_tolerant.true)
 
 pub returns : goal.returns
 returns c =
@@ -35,4 +35,4 @@ returns c =
     ground_in_order c.args.t1 c.args.t2 c.args.k1 c.args.k2 c.args.d c.query_ground-n.result
     (c.query_ground-n.ensures
     ∙ ap₂ (query_ground c.args.t1 c.args.t2) (to_z-of_z w32 c.args.k1 c.ranges.k1) (to_z-of_z w32 c.args.k2 c.ranges.k2)) in
-    rw (in_order, c.if-n.false, le-ltb 1000 c.args.d c.if-d-gt-TOLERANCE_MOST.false)
+    rw (in_order, c.if-n.false, le-ltb 1000 c.args.d c.if-is_too_tolerant.false)
