@@ -12,9 +12,9 @@ use lib.ListN.{length, drop, length-append, length-drop}
 use lib.Seq.{drop-append-le, drop-length}
 use Rattle.codec.specs.Area.{repeated}
 use Rattle.codec.proofs.Areas.{length_repeated, repeated_append}
-use Rattle.answers.specs.declared.Pen.{Pen}
+use Rattle.answers.specs.declared.Pen.TheVariants.{Digits, Spaces}
 use Rattle.answers.specs.Printed.{digit, digits_within, digits, numeral, spaces, justified, columns}
-use Rattle.answers.specs.Inner.Pen.{columns_of}
+use Rattle.answers.specs.Inner.Pen.{lead, columns_of}
 
 -- ---- digits
 
@@ -93,26 +93,23 @@ justified_last w text b =
 
 -- ---- as the code writes it
 
-abbrev pen : ℕ → Bool → Bool → Pen
-pen v digit minus = record { rest = v; digit = digit; minus = minus }
-
 abbrev sign : Bool → List ℕ
 sign minus = cond minus (45 ∷ []) []
 
 -- spaces alone, and the minus after them
-blank : (w v : ℕ) → columns_of w (pen v false false) ≡ justified w []
+blank : (w : ℕ) → columns_of w Spaces ≡ justified w []
 unfolding columns_of justified repeated
-blank zero v = refl
-blank (suc w) v =
+blank zero = refl
+blank (suc w) =
     let n : w + 1 ≡ suc w = omega arith in
     let e : spaces w ++ (32 ∷ []) ≡ spaces (suc w) = repeated_append w 1 32 ∙ ap (λ (k : ℕ). spaces k) n in
-    ap (λ (l : List ℕ). l ++ (32 ∷ [])) (blank w v ∙ append-nil (spaces w)) ∙ e ∙ sym (append-nil (spaces (suc w)))
+    ap (λ (l : List ℕ). l ++ (32 ∷ [])) (blank w ∙ append-nil (spaces w)) ∙ e ∙ sym (append-nil (spaces (suc w)))
 
-lead_written : (w v : ℕ) (minus : Bool) → columns_of w (pen v false minus) ≡ justified w (sign minus)
+lead_written : (w : ℕ) (minus : Bool) → columns_of w (lead minus) ≡ justified w (sign minus)
 unfolding columns_of
-lead_written w v false = blank w v
-lead_written zero v true = sym (justified_zero (45 ∷ []))
-lead_written (suc w) v true = ap (λ (l : List ℕ). l ++ (45 ∷ [])) (blank w v) ∙ sym (justified_last w [] 45)
+lead_written w false = blank w
+lead_written zero true = sym (justified_zero (45 ∷ []))
+lead_written (suc w) true = ap (λ (l : List ℕ). l ++ (45 ∷ [])) (blank w) ∙ sym (justified_last w [] 45)
 
 numeral_more : (v : ℕ) (minus : Bool) → 10 ≤ v → numeral minus (v / 10) ++ (digit (v % 10) ∷ []) ≡ numeral minus v
 numeral_more v true h = rw (digits_more v h)
@@ -126,17 +123,17 @@ numeral_one v minus h = let e : v % 10 ≡ v = omega arith in go minus e
     go false e = rw (digits_one v h, e)
 
 -- the columns that the code writes are the number's, right-justified
-pub pen_written : (w v : ℕ) (minus : Bool) → columns_of w (pen v true minus) ≡ columns w minus v
+pub pen_written : (w v : ℕ) (minus : Bool) → columns_of w (Digits v minus) ≡ columns w minus v
 unfolding columns_of
 pen_written zero v minus = sym (justified_zero (numeral minus v))
 pen_written (suc w) v minus = go (leb 10 v) refl (pen_written w (v / 10) minus)
   where
-    go : (t : Bool) → leb 10 v ≡ t → columns_of w (pen (v / 10) true minus) ≡ columns w minus (v / 10)
-        → columns_of w (pen (v / 10) t minus) ++ (digit (v % 10) ∷ []) ≡ columns (suc w) minus v
+    go : (t : Bool) → leb 10 v ≡ t → columns_of w (Digits (v / 10) minus) ≡ columns w minus (v / 10)
+        → columns_of w (cond t (Digits (v / 10) minus) (lead minus)) ++ (digit (v % 10) ∷ []) ≡ columns (suc w) minus v
     go true e ih =
         ap (λ (l : List ℕ). l ++ (digit (v % 10) ∷ [])) ih ∙ sym (justified_last w (numeral minus (v / 10)) (digit (v % 10)))
         ∙ ap (justified (suc w)) (numeral_more v minus (leb-true 10 v e))
     go false e ih =
-        ap (λ (l : List ℕ). l ++ (digit (v % 10) ∷ [])) (lead_written w (v / 10) minus)
+        ap (λ (l : List ℕ). l ++ (digit (v % 10) ∷ [])) (lead_written w minus)
         ∙ sym (justified_last w (sign minus) (digit (v % 10)))
         ∙ ap (justified (suc w)) (numeral_one v minus (leb-false 10 v e))

@@ -18,40 +18,34 @@ const COUNT_COLUMNS: usize = 7;
 // Letter and number; an answer's count or counts follow.
 const HEAD_BYTES: usize = 4;
 
-// What is left to write of a number, from its last column: whether a digit is due, and whether a minus still is.
+// What is left to write of a number, from its last column.
 #[derive(Clone, Copy)]
-pub struct Pen {
-    pub rest: u64,
-    pub digit: bool,
-    pub minus: bool,
+pub enum Pen {
+    // Digits of this number, and whether a minus stands before them.
+    Digits(u64, bool),
+    Minus,
+    Spaces,
 }
 
-fn pen_byte(p: Pen) -> u8
-    ensures { result ≡ Pens.pen_byte p }
-{
-    if p.digit {
-        return ZERO + (p.rest % 10) as u8;
+impl Pen {
+    fn byte(self) -> u8
+        ensures { result ≡ Pens.pen_byte self }
+    {
+        match self {
+            Pen::Digits(v, _) => ZERO + (v % 10) as u8,
+            Pen::Minus => MINUS,
+            Pen::Spaces => SPACE,
+        }
     }
-    if p.minus {
-        return MINUS;
-    }
-    SPACE
-}
 
-fn pen_next(p: Pen) -> Pen
-    ensures { result ≡ Pens.pen_next p }
-{
-    if p.digit {
-        return Pen {
-            rest: p.rest / 10,
-            digit: 10 <= p.rest,
-            minus: p.minus,
-        };
-    }
-    Pen {
-        rest: p.rest,
-        digit: false,
-        minus: false,
+    fn next(self) -> Pen
+        ensures { result ≡ Pens.pen_next self }
+    {
+        match self {
+            Pen::Digits(v, minus) if 10 <= v => Pen::Digits(v / 10, minus),
+            Pen::Digits(_, true) => Pen::Minus,
+            _ => Pen::Spaces,
+        }
     }
 }
 
@@ -60,17 +54,10 @@ pub fn put_number(s: &mut [u8], at: usize, width: usize, minus: bool, v: u64)
     requires { at + width ≤ length s.old }
     ensures { s.new ≡ splice s.old at (Printed.columns width minus v) }
 {
-    let mut p = Pen {
-        rest: v,
-        digit: true,
-        minus: minus,
-    };
-    let mut left = width;
-    while 0 < left {
-        left -= 1;
-        let b = pen_byte(p);
-        s[at + left] = b;
-        p = pen_next(p);
+    let mut pen = Pen::Digits(v, minus);
+    for column in (0..width).rev() {
+        s[at + column] = pen.byte();
+        pen = pen.next();
     }
 }
 
@@ -90,14 +77,11 @@ pub fn put_count(s: &mut [u8], at: usize, n: u64)
     put_number(s, at, COUNT_COLUMNS, false, n);
 }
 
-// The size of the load that a stored number stands for.
+// The size of the load that a stored number stands for; its sign is a test of that number.
 pub fn size_of(code: u32) -> u64
     ensures { result ≡ cond (ltb code 50001) (50001 - code) (code - 50001) }
 {
-    if code < CODE_OF_ZERO {
-        return (CODE_OF_ZERO - code) as u64;
-    }
-    (code - CODE_OF_ZERO) as u64
+    code.abs_diff(CODE_OF_ZERO) as u64
 }
 
 // "a line per lift in the same columns without a letter": from the load as stored.
@@ -115,10 +99,7 @@ pub fn put_counts(s: &mut [u8], counts: [u64; PLATES])
     requires { 158 ≤ length s.old }
     ensures { s.new ≡ splice s.old 4 (Printed.counts_bytes counts) }
 {
-    let mut i: usize = 0;
-    while i < PLATES {
-        let n = counts[i];
-        put_count(s, HEAD_BYTES + COUNT_COLUMNS * i, n);
-        i += 1;
+    for (i, n) in counts.iter().enumerate() {
+        put_count(s, HEAD_BYTES + COUNT_COLUMNS * i, *n);
     }
 }

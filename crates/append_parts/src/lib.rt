@@ -26,6 +26,16 @@ pub fn blank_page() -> [u8; PAGE_BYTES]
     [255u8; PAGE_BYTES]
 }
 
+// A record in an area, from `at` on.
+pub fn put_record(s: &mut [u8], at: usize, time: u64, code: u32, note: [u8; NOTE_BYTES])
+    requires { at + record_width ≤ length s.old }
+    ensures { s.new ≡ splice s.old at (record_bytes time code note) }
+{
+    codec::put_u64(s, at, time);
+    codec::put_u32(s, at + lift::CODE_AT, code);
+    codec::copy(s, at + lift::NOTE_AT, &note);
+}
+
 // The page with a record from `at` on.
 pub fn with_record(
     page: [u8; PAGE_BYTES],
@@ -38,37 +48,21 @@ pub fn with_record(
     ensures { result ≡ splice page at (record_bytes time code note) }
 {
     let mut p = page;
-    codec::put_u64(&mut p, at, time);
-    codec::put_u32(&mut p, at + lift::CODE_AT, code);
-    codec::copy(&mut p, at + lift::NOTE_AT, &note);
+    put_record(&mut p, at, time, code, note);
     p
 }
 
 pub fn is_damaged_plan(p: Plan) -> bool
     ensures { result ≡ is_damaged (meaning p) }
 {
-    match p {
-        Plan::Damage => true,
-        Plan::Full => false,
-        Plan::Root => false,
-        Plan::Entry(_, _) => false,
-        Plan::Child(_, _, _, _) => false,
-        Plan::Split(_, _, _, _, _) => false,
-    }
+    matches!(p, Plan::Damage)
 }
 
 // The segment closes first.
 pub fn is_full(p: Plan) -> bool
     ensures { result ≡ is_no_room (meaning p) }
 {
-    match p {
-        Plan::Damage => false,
-        Plan::Full => true,
-        Plan::Root => false,
-        Plan::Entry(_, _) => false,
-        Plan::Child(_, _, _, _) => false,
-        Plan::Split(_, _, _, _, _) => false,
-    }
+    matches!(p, Plan::Full)
 }
 
 // The first append to this serial drops the oldest closed segment.
@@ -79,32 +73,52 @@ pub fn drops_first(oldest: u32, current: u32, count: u16, slots: u64) -> bool
     (count == 0) & (slots <= (current - oldest) as u64)
 }
 
-// The Bloom section that the lift at this place fills can be written.
+// The page that the lift at this place fills.
+pub fn page_filled(count: u16) -> Option<Page>
+    requires { count ≤ lifts_most }
+    ensures { result ≡ cond (eqb (count % 16) 15) (Some (record { 0 = count / 16 })) None }
+{
+    let n = count as usize;
+    if n % lift::LIFTS_PER_PAGE == LAST_IN_PAGE {
+        Some(Page(n / lift::LIFTS_PER_PAGE))
+    } else {
+        None
+    }
+}
+
+// Where the Bloom section starts that it fills.
+pub fn section_filled(count: u16) -> Option<usize>
+    requires { count ≤ lifts_most }
+    ensures { result ≡ cond (eqb (count % 64) 63) (Some (tree_width + count / 64 * 128)) None }
+{
+    let n = count as usize;
+    if n % bloom::LIFTS_PER_SECTION == LAST_IN_SECTION {
+        Some(flash::TREE_BYTES + n / bloom::LIFTS_PER_SECTION * SECTION_BYTES)
+    } else {
+        None
+    }
+}
+
+// That section can be written.
 pub fn section_clear(nor: &[u8], count: u16) -> bool
     requires { (length nor.now ≡ nor_width) × (count ≤ lifts_most) }
     ensures { result ≡ (not (eqb (count % 64) 63) || all_ones (part nor.now (tree_width + count / 64 * 128) 128)) }
 {
-    let n = count as usize;
-    if n % bloom::LIFTS_PER_SECTION != LAST_IN_SECTION {
-        return true;
+    match section_filled(count) {
+        Some(at) => codec::all_ones(nor, at, SECTION_BYTES),
+        None => true,
     }
-    codec::all_ones(
-        nor,
-        flash::TREE_BYTES + n / bloom::LIFTS_PER_SECTION * SECTION_BYTES,
-        SECTION_BYTES,
-    )
 }
 
-// The page that the lift at this place fills can be programmed.
+// That page can be programmed.
 pub fn page_free(nand: &[u8], slot: usize, count: u16) -> bool
     requires { (slot * slot_width + slot_width ≤ length nand.now) × (count ≤ lifts_most) }
     ensures { result ≡ not (eqb (count % 16) 15 && not (page_erased nand.now slot (count / 16))) }
 {
-    let n = count as usize;
-    if n % lift::LIFTS_PER_PAGE != LAST_IN_PAGE {
-        return true;
+    match page_filled(count) {
+        Some(page) => flash::is_erased(nand, slot, page),
+        None => true,
     }
-    flash::is_erased(nand, slot, Page(n / lift::LIFTS_PER_PAGE))
 }
 
 // The page buffer after a lift; it goes to NAND when it is full.
@@ -112,18 +126,18 @@ pub fn page_after(
     nand: &mut [u8],
     slot: usize,
     count: u16,
-    page: [u8; PAGE_BYTES],
+    buffer: [u8; PAGE_BYTES],
 ) -> [u8; PAGE_BYTES]
     requires { (slot * slot_width + slot_width ≤ length nand.old) × (count ≤ lifts_most) }
-    ensures nand { nand.new ≡ cond (eqb (count % 16) 15) (programmed nand.old slot (count / 16) page) nand.old }
-    ensures page { result ≡ cond (eqb (count % 16) 15) erased_page page }
+    ensures nand { nand.new ≡ cond (eqb (count % 16) 15) (programmed nand.old slot (count / 16) buffer) nand.old }
+    ensures page { result ≡ cond (eqb (count % 16) 15) erased_page buffer }
 {
-    let n = count as usize;
-    if n % lift::LIFTS_PER_PAGE != LAST_IN_PAGE {
-        return page;
+    if let Some(page) = page_filled(count) {
+        flash::program(nand, slot, page, buffer);
+        blank_page()
+    } else {
+        buffer
     }
-    flash::program(nand, slot, Page(n / lift::LIFTS_PER_PAGE), page);
-    blank_page()
 }
 
 // The Bloom buffer after a lift; it goes to NOR when it is full.
@@ -136,24 +150,17 @@ pub fn section_after(
     ensures nor { nor.new ≡ cond (eqb (count % 64) 63) (splice nor.old (tree_width + count / 64 * 128) section) nor.old }
     ensures section { result ≡ cond (eqb (count % 64) 63) empty_section section }
 {
-    let n = count as usize;
-    if n % bloom::LIFTS_PER_SECTION != LAST_IN_SECTION {
-        return section;
+    if let Some(at) = section_filled(count) {
+        codec::copy(nor, at, &section);
+        bloom::empty_section()
+    } else {
+        section
     }
-    codec::copy(
-        nor,
-        flash::TREE_BYTES + n / bloom::LIFTS_PER_SECTION * SECTION_BYTES,
-        &section,
-    );
-    bloom::empty_section()
 }
 
 // The segment's start after a lift.
 pub fn start_after(count: u16, start: u64, time: u64) -> u64
     ensures { result ≡ cond (eqb count 0) time start }
 {
-    if count == 0 {
-        return time;
-    }
-    start
+    if count == 0 { time } else { start }
 }

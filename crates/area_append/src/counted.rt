@@ -1,12 +1,13 @@
 // Append over areas that keeps counts (W-210): the 22 counts are an area of 88 bytes beside that of the state.
 ghost use Rattle.std.specs.Prelude.{◌≡◌, length};
+ghost use Rattle.grounds.specs.Numbers.{number_in};
 ghost use Rattle.form.specs.declared.Form.TheVariants.{New};
 ghost use Rattle.counts.specs.CountsBytes.{counts_length};
 ghost use Rattle.state_bytes.specs.StateBytes.{area_length};
 ghost use Rattle.areas.specs.Areas.{left_kept, append_kept_called};
 ghost use Rattle.area_append.specs.Inner.Appending.{Counting, Shedding};
 
-use crate::STOPPED;
+use grounds::Ground;
 use lift::NOTE_BYTES;
 use state_bytes::pieces;
 
@@ -20,28 +21,22 @@ fn append_shedding(
     time: u64,
     load: i32,
     note: [u8; NOTE_BYTES],
-) -> u8
+) -> Result<(), Ground>
     requires { Shedding state.old counts.old nand.old nor.old slots time load }
-    ensures { left_kept result state.new counts.new nand.new nor.new
+    ensures { left_kept (number_in result) state.new counts.new nand.new nor.new
         ≡ append_kept_called state.old counts.old nand.old nor.old slots time load note }
 {
     let oldest = codec::get_u32(state, pieces::OLDEST_AT);
     let current = codec::get_u32(state, pieces::CURRENT_AT);
     let count = codec::get_u16(state, pieces::COUNT_AT);
     let c = counts::area::get_counts(counts);
-    let d = keeping::pieces::shed(c, nand, slots, oldest, current, count);
-    let good = d.good;
-    if !good {
-        return 10;
-    }
-    let m = crate::append_on(state, nand, nor, slots, time, load, note, true);
-    if m != 0 {
-        return m;
-    }
-    let left = d.counts;
+    let Some(left) = keeping::pieces::shed(c, nand, slots, oldest, current, count) else {
+        return Err(Ground::Damage);
+    };
+    crate::append_on(state, nand, nor, slots, time, load, note, true).unwrap()?;
     let next = counts::one_more(left, lift::stored(load));
     counts::area::put_counts(counts, next);
-    0
+    Ok(())
 }
 
 // An append past grounds 1 to 8.
@@ -54,19 +49,21 @@ fn append_counted(
     time: u64,
     load: i32,
     note: [u8; NOTE_BYTES],
-) -> u8
+) -> Result<(), Ground>
     requires { Counting state.old counts.old nand.old nor.old slots time load }
-    ensures { left_kept result state.new counts.new nand.new nor.new
+    ensures { left_kept (number_in result) state.new counts.new nand.new nor.new
         ≡ append_kept_called state.old counts.old nand.old nor.old slots time load note }
 {
-    let m = crate::append_on(state, nand, nor, slots, time, load, note, false);
-    if m == STOPPED {
-        return append_shedding(state, counts, nand, nor, slots, time, load, note);
+    let gone = crate::append_on(state, nand, nor, slots, time, load, note, false);
+    match gone {
+        None => append_shedding(state, counts, nand, nor, slots, time, load, note),
+        Some(r) => {
+            if r.is_ok() {
+                counts::area::one_more(counts, lift::stored(load));
+            }
+            r
+        }
     }
-    if m == 0 {
-        counts::area::one_more(counts, lift::stored(load));
-    }
-    m
 }
 
 // The append that keeps counts, of a state and counts in areas of their lengths.
@@ -79,17 +76,13 @@ pub fn append(
     time: u64,
     load: i32,
     note: &[u8; NOTE_BYTES],
-) -> u8
+) -> Result<(), Ground>
     requires { (length state.old ≡ area_length New) × (length counts.old ≡ counts_length) }
-    ensures { left_kept result state.new counts.new nand.new nor.new
+    ensures { left_kept (number_in result) state.new counts.new nand.new nor.new
         ≡ append_kept_called state.old counts.old nand.old nor.old slots time load note.now }
 {
-    let g = area_reads::lift_ground(state, nand.len(), nor.len(), slots, time, load);
-    let broken = counts::area::are_broken(counts);
-    let n = keeping::pieces::with_ground_3(g, broken);
-    if n != 0 {
-        return n;
-    }
+    let plain = area_reads::lift_ground(state, nand.len(), nor.len(), slots, time, load);
+    keeping::pieces::with_ground_3(plain, counts::area::are_broken(counts))?;
     let copy = *note;
     append_counted(state, counts, nand, nor, slots, time, load, copy)
 }

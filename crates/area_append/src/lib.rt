@@ -4,21 +4,20 @@
 pub mod counted;
 
 ghost use Rattle.std.specs.Prelude.{◌≡◌, true, length};
+ghost use Rattle.grounds.specs.Numbers.{number_in};
 ghost use Rattle.form.specs.declared.Form.TheVariants.{New};
 ghost use Rattle.grow.specs.Inner.Meaning.{meaning};
 ghost use Rattle.state_bytes.specs.StateBytes.{state_in, area_length};
 ghost use Rattle.store.specs.Inner.Fields.{fields_of};
 ghost use Rattle.store.specs.Inner.Pieces.{entry_ground, is_plain};
 ghost use Rattle.areas.specs.Areas.{left, append_called};
-ghost use Rattle.area_append.specs.Inner.Appending.{Appending, GoesOn};
+ghost use Rattle.area_append.specs.Inner.Appending.{Appending, GoesOn, number_or_stop};
 
+use grounds::Ground;
 use grow::Plan;
 use lift::NOTE_BYTES;
 use store::append::pieces;
 use store::fields::Fields;
-
-// An append that was not to drop would have to.
-const STOPPED: u8 = 255;
 
 // A plain lift goes straight into NOR and the area of the state; a page or a section that it fills goes out from there.
 fn put_plain(
@@ -88,8 +87,8 @@ fn put(
     put_by_value(state, nand, nor, slots, time, load, note, p);
 }
 
-// An append past grounds 1 to 8. Where it may not drop it stops before a forced drop, with nothing changed. It takes no structs: it has
-// several callers.
+// An append past grounds 1 to 8. Where it may not drop it stops before a forced drop, with nothing changed, and answers None. It takes no
+// structs: it has several callers.
 fn append_on(
     state: &mut [u8],
     nand: &mut [u8],
@@ -99,25 +98,24 @@ fn append_on(
     load: i32,
     note: [u8; NOTE_BYTES],
     may_drop: bool,
-) -> u8
+) -> Option<Result<(), Ground>>
     requires { (length state.old ≡ area_length New)
         × (entry_ground (state_in state.old) (length nand.old) (length nor.old) slots time load ≡ 0) }
     ensures { GoesOn may_drop state.old nand.old nor.old slots time load note
-        (left result state.new nand.new nor.new) }
+        (left (number_or_stop result) state.new nand.new nor.new) }
 {
     let f = area_reads::fields_at(state);
-    let a = f.planned(nand, nor, slots, load);
-    let p = a.plan;
+    let code = lift::stored(load);
+    let p = f.plan(nor, code);
     let stop = !may_drop & f.sheds(slots, p);
     if stop {
-        return STOPPED;
+        return None;
     }
-    let m = a.number;
-    if m != 0 {
-        return m;
+    if let Err(ground) = f.blocked(nand, nor, slots, code, p) {
+        return Some(Err(ground));
     }
     put(state, nand, nor, slots, f, time, load, note, p);
-    0
+    Some(Ok(()))
 }
 
 // The plain append, of a state in an area of its length.
@@ -129,14 +127,11 @@ pub fn append(
     time: u64,
     load: i32,
     note: [u8; NOTE_BYTES],
-) -> u8
+) -> Result<(), Ground>
     requires { length state.old ≡ area_length New }
-    ensures { left result state.new nand.new nor.new
+    ensures { left (number_in result) state.new nand.new nor.new
         ≡ append_called state.old nand.old nor.old slots time load note }
 {
-    let g = area_reads::lift_ground(state, nand.len(), nor.len(), slots, time, load);
-    if g != 0 {
-        return g;
-    }
-    append_on(state, nand, nor, slots, time, load, note, true)
+    area_reads::lift_ground(state, nand.len(), nor.len(), slots, time, load)?;
+    append_on(state, nand, nor, slots, time, load, note, true).unwrap()
 }

@@ -3,6 +3,7 @@
 #![tactic(auto)]
 
 ghost use Rattle.std.specs.Prelude.{◌≡◌, length};
+ghost use Rattle.grounds.specs.Numbers.{number_in};
 ghost use Rattle.bounds.specs.Bounds.{loads_ok};
 ghost use Rattle.form.specs.declared.Form.TheVariants.{New};
 ghost use Rattle.lift.specs.Limits.{loads_kept};
@@ -15,6 +16,7 @@ ghost use Rattle.questions.specs.Queries.{log_of};
 ghost use Rattle.state_bytes.specs.StateBytes.{heads_from, loads_from, area_length, state_in};
 
 use form::Form;
+use grounds::Ground;
 use lift::LOADS_KEPT;
 use state_bytes::pieces;
 use store::fields::Fields;
@@ -29,12 +31,9 @@ fn loads_ok(b: &[u8]) -> bool
     ensures { result ≡ loads_ok (loads_at b.now (loads_from New) loads_kept) }
 {
     let mut good = true;
-    let mut i: usize = 0;
-    while i < LOADS_KEPT {
+    for i in 0..LOADS_KEPT {
         let x = loads::load_at(b, pieces::LOADS_AT + 4 * i);
-        let ok = lift::load_ok(x);
-        good = good & ok;
-        i += 1;
+        good &= lift::load_ok(x);
     }
     good
 }
@@ -74,29 +73,33 @@ fn within_bounds(b: &[u8], slots: u64) -> bool
 }
 
 // Grounds 1 to 3.
-pub fn ground(b: &[u8], nand: usize, nor: usize, slots: u64) -> u8
+#[tactic(auto, unfolding(store::specs::Inner::Pieces::bounds_ground, bounds::specs::Grounds::format_ground))]
+pub fn ground(b: &[u8], nand: usize, nor: usize, slots: u64) -> Result<(), Ground>
     requires { length b.now ≡ area_length New }
-    ensures { result ≡ bounds_ground New (state_in b.now) 0 nand nor slots }
+    ensures { number_in result ≡ bounds_ground New (state_in b.now) 0 nand nor slots }
 {
-    let n = bounds::chips_ground(nand, nor, slots);
-    if n != 0 {
-        return n;
+    bounds::chips_ground(nand, nor, slots)?;
+    if within_bounds(b, slots) {
+        Ok(())
+    } else {
+        Err(Ground::State)
     }
-    if !within_bounds(b, slots) {
-        return 3;
-    }
-    0
 }
 
 // Grounds 1 to 8 of an append.
-pub fn lift_ground(b: &[u8], nand: usize, nor: usize, slots: u64, time: u64, load: i32) -> u8
+#[tactic(auto, unfolding(store::specs::Inner::Pieces::bounds_ground, store::specs::Inner::Pieces::entry_ground))]
+pub fn lift_ground(
+    b: &[u8],
+    nand: usize,
+    nor: usize,
+    slots: u64,
+    time: u64,
+    load: i32,
+) -> Result<(), Ground>
     requires { length b.now ≡ area_length New }
-    ensures { result ≡ entry_ground (state_in b.now) nand nor slots time load }
+    ensures { number_in result ≡ entry_ground (state_in b.now) nand nor slots time load }
 {
-    let n = ground(b, nand, nor, slots);
-    if n != 0 {
-        return n;
-    }
+    ground(b, nand, nor, slots)?;
     let next = codec::get_u64(b, pieces::NEXT_AT);
     let current = codec::get_u32(b, pieces::CURRENT_AT);
     bounds::lift_ground(time, load, next, current)

@@ -7,9 +7,12 @@ use native.Mathlib.Omega.{arith}
 use lib.Dec.{eqb}
 use lib.ListN.{length}
 use borrow.Author.Tests.{eq-eqb, ne_eqb}
+use Rattle.grounds.specs.declared.Ground.{Ground}
+use Rattle.grounds.specs.Numbers.{number_of}
+use Rattle.grounds.proofs.Numbers.{refused}
 use Rattle.codec.specs.Number.{bytes}
 use Rattle.codec.proofs.Areas.{length_part}
-use Rattle.plate.specs.declared.Lookup.{Lookup}
+use Rattle.plate.specs.Lookup.{Lookup}
 use Rattle.found.specs.declared.Pages.{Pages}
 use Rattle.search.specs.Answers.{SearchAnswer}
 use Rattle.tally.specs.Answers.{TallyAnswer}
@@ -84,6 +87,10 @@ module _ {A : Type 0} (area answer : List ℕ) (n : ℕ) (a refused : A) where
 
   pub both_right : length area ≡ 783 → length answer ≡ n → a ≡ in_lengths area answer n a refused
   both_right e h = by true (both_equal (length area) 783 (length answer) n e h)
+
+-- a refusal leaves the area of its answer as it was
+pub refused_keeps : (g : Ground) (new old : List ℕ) → old ≡ kept (number_of g) new old
+refused_keeps g new old = sym (ap (λ t. cond t new old) (ne_eqb (number_of g) 0 (refused g)))
 
 -- a search's count and pages, side by side
 abbrev pub search_numbers : ℕ → Pages → List ℕ

@@ -1,5 +1,5 @@
--- `next_of` takes the head off the set's places: trailing zeros find the first place, and the set without it has the rest.
-use mathlib.Core.Path.{◌≡◌, refl, sym, ap, ◌∙◌}
+-- The lowest place: trailing zeros find it, and the set without it has the other places.
+use mathlib.Core.Path.{◌≡◌, sym, ap, ◌∙◌}
 use mathlib.Core.Bool.{true, false, not, ◌&&◌}
 use mathlib.Core.List.{List, [], ◌∷◌, ◌++◌}
 use Prim.Native.Nat.{ℕ, suc, ◌+◌, ◌-◌, ◌*◌, ◌/◌, ◌%◌, ◌^◌, ◌<◌}
@@ -11,57 +11,11 @@ use lib.ListN.{get_or, set}
 use borrow.Author.Tests.{eq-eqb}
 use Rattle.bitset.specs.Set.{picked}
 use Rattle.bitset.specs.Inner.Words.{has, without, members}
-use Rattle.bitset.specs.Inner.Emptying.{next_among, next_of}
-use Rattle.bitset.specs.declared.Bits.{Bits}
 use Rattle.bitset.proofs.Digits.{bit_zero, trailing_clear, lowest}
 use Rattle.bitset.proofs.Picked.{picked_same, picked_none, picked_first, picks, picked_out}
 use Rattle.bitset.proofs.Set.{has_without}
 
--- ---- the first place by words
-
--- the lowest place is the first that is in the set
-next_at : (b : Bits) (d : ℕ) → d < 320 → ((q : ℕ) → q < d → has b.words q ≡ false) → has b.words d ≡ true
-    → next_of b ≡ record { found = true; at = d; rest = record { words = without b.words d } }
-unfolding next_of members
-next_at b d l z t =
-    let n : d + suc (319 - d) ≡ 320 = omega arith in
-    let s : 0 + d ≡ d = omega arith in
-    let first : picked (has b.words) 0 (d + suc (319 - d)) ≡ (0 + d) ∷ picked (has b.words) (suc (0 + d)) (319 - d) =
-    picked_first (has b.words) 0 d (319 - d) (λ q a u. z q (omega arith)) (rw s t) in
-    ap (next_among b) (rw (n, s) at first)
-
--- words 0 to i - 1 are 0 and word i is not: t is its count of trailing zeros, and v the power taken from it
-pub next_found : (b : Bits) (i t v : ℕ) → i < 5 → ((k : ℕ) → k < i → get_or b.words k 0 ≡ 0)
-    → 0 < get_or b.words i 0 → get_or b.words i 0 < 2 ^ 64 → t ≡ count_trailing_zeros 64 (get_or b.words i 0) → v ≡ 2 ^ t
-    → next_of b ≡ record { found = true; at = 64 * i + t; rest = record { words = set b.words i (get_or b.words i 0 - v) } }
-next_found b i t v l z p h e s =
-    let w = lowest 64 word p h in
-    let u : t < 64 = omega (arith, w.below) in
-    let q : (64 * i + t) / 64 ≡ i = omega arith in
-    let r : (64 * i + t) % 64 ≡ t = omega arith in
-    let on : has b.words (64 * i + t) ≡ true = rw (q, r, e) (eq-eqb _ _ w.is_set_lem) in
-    rw s (rw (q, r) at (next_at b (64 * i + t) (omega arith) before on))
-  where
-    word : ℕ
-    word = get_or b.words i 0
-
-    before : (q : ℕ) → q < 64 * i + t → has b.words q ≡ false
-    before q l = inside (dec_lt (q / 64) i)
-      where
-        inside : Dec (q / 64 < i) → has b.words q ≡ false
-        inside (yes u) = rw (z (q / 64) u, bit_zero (q % 64))
-        inside (no f) =
-            let c : q / 64 ≡ i = omega (arith, trailing_le 64 word) in
-            rw (c, trailing_clear 64 word (q % 64) (omega (arith, trailing_le 64 word)))
-
-pub next_none : (b : Bits) → ((k : ℕ) → k < 5 → get_or b.words k 0 ≡ 0) → next_of b ≡ record { found = false; at = 0; rest = b }
-unfolding next_of members
-next_none b z =
-    let none : picked (has b.words) 0 320 ≡ [] =
-    picked_none (has b.words) 0 320 (λ p a u. rw (z (p / 64) (omega arith), bit_zero (p % 64))) in
-    ap (next_among b) none
-
--- ---- what a caller goes by
+-- ---- a place taken out
 
 -- a place of the set
 module _ (ws : List ℕ) (p : ℕ) (xs ys : List ℕ) (e : members ws ≡ xs ++ (p ∷ ys)) where
@@ -76,28 +30,45 @@ module _ (ws : List ℕ) (p : ℕ) (xs ys : List ℕ) (e : members ws ≡ xs ++ 
       picked_same (has (without ws p)) (λ q. not (eqb q p) && has ws q) 0 320 (λ q a u. has_without ws p q place_in.1)
       ∙ picked_out (has ws) p ys 0 320 xs e
 
-module _ (b : Bits) where
-  among_step : (l : List ℕ) → members b.words ≡ l → (next_among b l).found ≡ true
-      → members b.words ≡ (next_among b l).at ∷ members (next_among b l).rest.words
-  among_step [] e t = cc
-  among_step (p ∷ ps) e t = e ∙ ap (λ (r : List ℕ). p ∷ r) (sym (members_without b.words p [] ps e))
+-- ---- the first place by words
 
-  pub next_step : (next_of b).found ≡ true → members b.words ≡ (next_of b).at ∷ members (next_of b).rest.words
-  unfolding next_of
-  next_step = among_step (members b.words) refl
+-- the lowest place is the first that is in the set
+first_at : (ws : List ℕ) (d : ℕ) → d < 320 → ((q : ℕ) → q < d → has ws q ≡ false) → has ws d ≡ true
+    → members ws ≡ d ∷ members (without ws d)
+unfolding members
+first_at ws d l z t =
+    let n : d + suc (319 - d) ≡ 320 = omega arith in
+    let s : 0 + d ≡ d = omega arith in
+    let first : picked (has ws) 0 (d + suc (319 - d)) ≡ (0 + d) ∷ picked (has ws) (suc (0 + d)) (319 - d) =
+    picked_first (has ws) 0 d (319 - d) (λ q a u. z q (omega arith)) (rw s t) in
+    let e = rw (n, s) at first in
+    e ∙ ap (λ (r : List ℕ). d ∷ r) (sym (members_without ws d [] _ e))
 
-  among_end : (l : List ℕ) → (next_among b l).found ≡ false → l ≡ []
-  among_end [] t = refl
-  among_end (p ∷ ps) t = cc
+-- words 0 to i - 1 are 0 and word i is not: t is its count of trailing zeros
+pub first_found : (ws : List ℕ) (i t : ℕ) → i < 5 → ((k : ℕ) → k < i → get_or ws k 0 ≡ 0)
+    → 0 < get_or ws i 0 → get_or ws i 0 < 2 ^ 64 → t ≡ count_trailing_zeros 64 (get_or ws i 0)
+    → (members ws ≡ (64 * i + t) ∷ members (without ws (64 * i + t))) × (without ws (64 * i + t) ≡ set ws i (get_or ws i 0 - 2 ^ t))
+    × (64 * i + t < 320)
+first_found ws i t l z p h e =
+    let w = lowest 64 word p h in
+    let u : t < 64 = omega (arith, w.below) in
+    let q : (64 * i + t) / 64 ≡ i = omega arith in
+    let r : (64 * i + t) % 64 ≡ t = omega arith in
+    let on : has ws (64 * i + t) ≡ true = rw (q, r, e) (eq-eqb _ _ w.is_set_lem) in
+    (first_at ws (64 * i + t) (omega arith) before on, rw (q, r), omega arith)
+  where
+    word : ℕ
+    word = get_or ws i 0
 
-  pub next_end : (next_of b).found ≡ false → members b.words ≡ []
-  unfolding next_of
-  next_end = among_end (members b.words)
+    before : (q : ℕ) → q < 64 * i + t → has ws q ≡ false
+    before q l = inside (dec_lt (q / 64) i)
+      where
+        inside : Dec (q / 64 < i) → has ws q ≡ false
+        inside (yes u) = rw (z (q / 64) u, bit_zero (q % 64))
+        inside (no f) =
+            let c : q / 64 ≡ i = omega (arith, trailing_le 64 word) in
+            rw (c, trailing_clear 64 word (q % 64) (omega (arith, trailing_le 64 word)))
 
-  among_below : (l : List ℕ) → members b.words ≡ l → (next_among b l).at < 320
-  among_below [] e = omega arith
-  among_below (p ∷ ps) e = (place_in b.words p [] ps e).0
-
-  pub next_below : (next_of b).at < 320
-  unfolding next_of
-  next_below = among_below (members b.words) refl
+pub first_none : (ws : List ℕ) → ((k : ℕ) → k < 5 → get_or ws k 0 ≡ 0) → members ws ≡ []
+unfolding members
+first_none ws z = picked_none (has ws) 0 320 (λ p a u. rw (z (p / 64) (omega arith), bit_zero (p % 64)))

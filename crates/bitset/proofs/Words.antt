@@ -1,20 +1,17 @@
--- The five words by constant places: each with or without what a place changes. By cases on the place. Assumes nothing.
-use mathlib.Core.Path.{◌≡◌, refl, sym, ap, ◌∙◌}
-use mathlib.Core.Bool.{true, cond}
+-- The five words by constant places, and the first that is not 0. Assumes nothing.
+use mathlib.Core.Logic.{◌≢◌}
+use mathlib.Core.Path.{subst, ◌≡◌, refl, sym, ap, ◌∙◌}
+use Rattle.std.specs.Prelude.{Some}
 use mathlib.Core.List.{List, [], ◌∷◌}
-use Prim.Native.Nat.{ℕ, zero, suc, ◌+◌, ◌-◌, ◌*◌, ◌/◌, ◌%◌, ◌^◌, ◌≤◌, ◌<◌}
+use Prim.Native.Nat.{ℕ, zero, suc, ◌+◌, ◌-◌, ◌*◌, ◌^◌, ◌≤◌, ◌<◌}
 use native.Mathlib.Omega.{arith}
 use lib.Count.{count_trailing_zeros}
-use lib.Dec.{eqb}
 use lib.ListN.{length, get_or, set}
 use borrow.Author.Count.{below_more}
-use borrow.Author.Tests.{eqb-true}
-use Rattle.bitset.specs.Inner.Words.{bit, has}
-use Rattle.bitset.specs.Inner.Emptying.{next_of}
+use Rattle.bitset.specs.Inner.Words.{without}
+use Rattle.bitset.specs.Inner.Emptying.{IsFirst}
 use Rattle.bitset.specs.declared.Bits.{Bits}
-use Rattle.bitset.specs.declared.Next.{Next}
-use Rattle.bitset.proofs.Digits.{power_within}
-use Rattle.bitset.proofs.Emptying.{next_found}
+use Rattle.bitset.proofs.Emptying.{first_found}
 
 -- the words one by one
 abbrev pub five_of : List ℕ → List ℕ
@@ -31,33 +28,32 @@ five (a ∷ b ∷ c ∷ d ∷ e ∷ f ∷ ws) h = absurd (omega arith)
 
 -- ---- one word changed
 
-abbrev pub one : (ℕ → ℕ) → ℕ → ℕ → ℕ → ℕ
-one f i at x = cond (eqb i at) (f x) x
+-- y is what a word x becomes that has place j, where the word at i changes
+pub record Turned (Q : ℕ → ℕ → Type 0) (i j x y : ℕ) : Type 0 where
+  pub here : i ≡ j → Q x y
+  pub other : i ≢ j → y ≡ x
 
-spread : (f : ℕ → ℕ) (a b c d e i : ℕ) → i < 5
-    → one f i 0 a ∷ one f i 1 b ∷ one f i 2 c ∷ one f i 3 d ∷ one f i 4 e ∷ []
-    ≡ set (a ∷ b ∷ c ∷ d ∷ e ∷ []) i (f (get_or (a ∷ b ∷ c ∷ d ∷ e ∷ []) i 0))
-spread f a b c d e zero h = refl
-spread f a b c d e (suc zero) h = refl
-spread f a b c d e (suc (suc zero)) h = refl
-spread f a b c d e (suc (suc (suc zero))) h = refl
-spread f a b c d e (suc (suc (suc (suc zero)))) h = refl
-spread f a b c d e (suc (suc (suc (suc (suc i))))) h = absurd (omega arith)
+module _ (Q : ℕ → ℕ → Type 0) (a b c d e : ℕ) where
+  spread : (v w x y z i : ℕ) → i < 5 → Turned Q i 0 v a → Turned Q i 1 w b → Turned Q i 2 x c → Turned Q i 3 y d → Turned Q i 4 z e
+      → (t : ℕ) × Q (get_or (v ∷ w ∷ x ∷ y ∷ z ∷ []) i 0) t × (a ∷ b ∷ c ∷ d ∷ e ∷ [] ≡ set (v ∷ w ∷ x ∷ y ∷ z ∷ []) i t)
+  spread v w x y z zero l f g h i j =
+      (a, f.here refl, rw (g.other (omega arith), h.other (omega arith), i.other (omega arith), j.other (omega arith)))
+  spread v w x y z (suc zero) l f g h i j =
+      (b, g.here refl, rw (f.other (omega arith), h.other (omega arith), i.other (omega arith), j.other (omega arith)))
+  spread v w x y z (suc (suc zero)) l f g h i j =
+      (c, h.here refl, rw (f.other (omega arith), g.other (omega arith), i.other (omega arith), j.other (omega arith)))
+  spread v w x y z (suc (suc (suc zero))) l f g h i j =
+      (d, i.here refl, rw (f.other (omega arith), g.other (omega arith), h.other (omega arith), j.other (omega arith)))
+  spread v w x y z (suc (suc (suc (suc zero)))) l f g h i j =
+      (e, j.here refl, rw (f.other (omega arith), g.other (omega arith), h.other (omega arith), i.other (omega arith)))
+  spread v w x y z (suc (suc (suc (suc (suc k))))) l f g h i j = absurd (omega arith)
 
-pub five_changed : (f : ℕ → ℕ) (ws : List ℕ) (i a b c d e : ℕ) → length ws ≡ 5 → i < 5 → a ≡ one f i 0 (get_or ws 0 0)
-    → b ≡ one f i 1 (get_or ws 1 0) → c ≡ one f i 2 (get_or ws 2 0) → d ≡ one f i 3 (get_or ws 3 0)
-    → e ≡ one f i 4 (get_or ws 4 0) → a ∷ b ∷ c ∷ d ∷ e ∷ [] ≡ set ws i (f (get_or ws i 0))
-five_changed f ws i a b c d e l h ea eb ec ed ee =
-    rw (ea, eb, ec, ed, ee)
-    (spread f (get_or ws 0 0) (get_or ws 1 0) (get_or ws 2 0) (get_or ws 3 0) (get_or ws 4 0) i h
-    ∙ ap (λ us. set us i (f (get_or us i 0))) (five ws l))
-
--- the power of a place of the set is within its word
-pub place_within : (ws : List ℕ) (p i k : ℕ) → has ws p ≡ true → k ≡ 2 ^ (p % 64) → eqb (p / 64) i ≡ true → k ≤ get_or ws i 0
-place_within ws p i k h e s =
-    let same : p / 64 ≡ i = eqb-true _ _ s in
-    let on : bit (get_or ws (p / 64) 0) (p % 64) ≡ 1 = eqb-true _ _ h in
-    rw (e, ← same) (power_within (p % 64) (get_or ws (p / 64) 0) on)
+  pub one_changed : (ws : List ℕ) (i : ℕ) → length ws ≡ 5 → i < 5 → Turned Q i 0 (get_or ws 0 0) a → Turned Q i 1 (get_or ws 1 0) b
+      → Turned Q i 2 (get_or ws 2 0) c → Turned Q i 3 (get_or ws 3 0) d → Turned Q i 4 (get_or ws 4 0) e
+      → (t : ℕ) × Q (get_or ws i 0) t × (a ∷ b ∷ c ∷ d ∷ e ∷ [] ≡ set ws i t)
+  one_changed ws i n l f g h k m =
+      subst (λ us. (t : ℕ) × Q (get_or us i 0) t × (a ∷ b ∷ c ∷ d ∷ e ∷ [] ≡ set us i t)) (five ws n)
+      (spread (get_or ws 0 0) (get_or ws 1 0) (get_or ws 2 0) (get_or ws 3 0) (get_or ws 4 0) i l f g h k m)
 
 -- ---- the first word that is not 0
 
@@ -71,16 +67,12 @@ zeros_none ws k h = absurd (omega arith)
 pub zeros_more : (ws : List ℕ) (i : ℕ) → Zeros ws i → get_or ws i 0 ≤ 0 → Zeros ws (i + 1)
 zeros_more ws i z h = below_more _ _ z (omega arith)
 
-pub found_word : (b : Bits) (i v : ℕ) (r : Next) → length b.words ≡ 5 → i < 5 → Zeros b.words i → 0 < get_or b.words i 0
+pub found_word : (b : Bits) (i v : ℕ) (r : ℕ × Bits) → length b.words ≡ 5 → i < 5 → Zeros b.words i → 0 < get_or b.words i 0
     → get_or b.words i 0 < 2 ^ 64 → v ≡ get_or b.words i 0 - 2 ^ count_trailing_zeros 64 (get_or b.words i 0)
-    → r ≡ record {
-      found = true;
-      at = 64 * i + count_trailing_zeros 64 (get_or b.words i 0);
-      rest = record { words = set (five_of b.words) i v };
-    }
-    → r ≡ next_of b
-found_word b i v r l h z p f ev er =
-    er ∙ ap (λ ws. over ws) (ap (λ us. set us i v) (five b.words l) ∙ ap (set b.words i) ev) ∙ sym (next_found b i _ _ h z p f refl refl)
-  where
-    over : List ℕ → Next
-    over ws = record { found = true; at = 64 * i + count_trailing_zeros 64 (get_or b.words i 0); rest = record { words = ws } }
+    → r.0 ≡ 64 * i + count_trailing_zeros 64 (get_or b.words i 0) → r.1.words ≡ set (five_of b.words) i v
+    → IsFirst b (Some r)
+found_word b i v r l h z p f ev et ew =
+    let s = first_found b.words i _ h z p f refl in
+    let e : r.1.words ≡ without b.words r.0 =
+    ew ∙ ap (λ us. set us i v) (five b.words l) ∙ ap (set b.words i) ev ∙ rw et (sym s.1) in
+    (rw (e, et) s.0, e, rw et s.2)

@@ -1,12 +1,11 @@
 // The matches of one segment: a set of 320 bits, emptied from the lowest bit up.
 #![tactic(auto)]
 
-ghost use Rattle.std.specs.Prelude.{◌≡◌, true, cond, ◌+◌, ◌-◌, ◌^◌, ◌<◌, ◌≤◌, length};
-ghost use Rattle.std.specs.Int.Bits.{bit_or};
+ghost use Rattle.std.specs.Prelude.{◌≡◌, true, false, ℕ, [], ◌∷◌, ◌+◌, ◌-◌, ◌^◌, ◌<◌, ◌≤◌, ◌↔◌, IsTrue, length, slice_index, slice_set, MatchOption, IfSome};
 ghost use Rattle.std.specs.Int.Count.{count_trailing_zeros};
 ghost use Rattle.std.specs.Int.Count as Count;
 ghost use Rattle.bitset.specs.Inner.Words.{has, empty_words, insert_in, without, members};
-ghost use Rattle.bitset.specs.Inner.Emptying.{next_of};
+ghost use Rattle.bitset.specs.Inner.Emptying.{IsFirst};
 
 // Places 0 to 319: place p is bit p mod 64 of word p div 64.
 #[derive(Clone, Copy)]
@@ -14,12 +13,10 @@ pub struct Bits {
     pub words: [u64; 5],
 }
 
-// What emptying from the lowest bit finds.
-#[derive(Clone, Copy)]
-pub struct Next {
-    pub found: bool,
-    pub at: usize,
-    pub rest: Bits,
+// The places that a set has left to give, from the lowest up.
+#[derive(Clone, Copy, Drop)]
+pub struct Places {
+    pub left: Bits,
 }
 
 // 2 to the k.
@@ -35,14 +32,14 @@ pub fn lowest(x: u64) -> usize
     requires { 0 < x }
     ensures { (result ≡ count_trailing_zeros 64 x) × (result < 64) × (2 ^ result ≤ x) }
 {
-    u64::trailing_zeros(x) as usize
+    x.trailing_zeros() as usize
 }
 
 // How many bits are set.
 pub fn ones(x: u64) -> u32
     ensures { (result ≡ Count.ones x) × (result ≤ 64) }
 {
-    u64::count_ones(x)
+    x.count_ones()
 }
 
 // The word without its lowest bit.
@@ -54,64 +51,55 @@ pub fn without_lowest(x: u64) -> u64
     x - power(k)
 }
 
-// The word with these bits, where it is theirs.
-fn with_bits(x: u64, bits: u64, here: bool) -> u64
-    ensures { result ≡ cond here (bit_or x bits) x }
+// The word as `change` makes it, where it is its turn. A function of its own, and closures that own what they use (`move`): each word then
+// comes to a choice of two values, and not to a jump, which a search would pay for at each match.
+fn changed<F: Fn(u64) -> u64>(x: u64, here: bool, change: &F) -> u64
+    requires { here ≡ true → F.pre change.now x }
+    ensures own { here ≡ true → F.post change.now x result }
+    ensures other { here ≡ false → result ≡ x }
 {
-    if here {
-        return x | bits;
-    }
-    x
-}
-
-// The word without these bits, which it has where it is theirs.
-fn without_bits(x: u64, bits: u64, here: bool) -> u64
-    requires { here ≡ true → bits ≤ x }
-    ensures { result ≡ cond here (x - bits) x }
-{
-    if here {
-        return x - bits;
-    }
-    x
+    if here { change(x) } else { x }
 }
 
 // The place of the lowest bit of x, a word whose places begin at `from`, and the words without it.
-fn found_at(words: [u64; 5], x: u64, from: usize) -> Next
+fn found_at(words: [u64; 5], x: u64, from: usize) -> (usize, Bits)
     requires { (0 < x) × (from ≤ 256) }
-    ensures value { result ≡ record { found = true; at = from + count_trailing_zeros 64 x; rest = record { words = words } } }
-    ensures at_bound { result.at < 320 }
+    ensures { (result.0 ≡ from + count_trailing_zeros 64 x) × (result.0 < 320) × (result.1.words ≡ words) }
 {
-    let k = lowest(x);
-    Next {
-        found: true,
-        at: from + k,
-        rest: Bits { words: words },
-    }
+    (from + lowest(x), Bits { words })
 }
 
 impl Bits {
     pub fn empty() -> Bits
         ensures { result.words ≡ empty_words }
     {
-        Bits { words: [0u64; 5] }
+        Bits { words: [0; 5] }
+    }
+
+    // The set with word i as `change` makes it.
+    fn with_word<F: Fn(u64) -> u64>(self, i: usize, change: F) -> Bits
+        requires place { i < 5 }
+        requires can { F.pre change (slice_index self.words i) }
+        ensures { (x : ℕ) × F.post change (slice_index self.words i) x × (result.words ≡ slice_set self.words i x) }
+    {
+        let w = self.words;
+        // A constant place for each word: a computed one would keep the words in memory.
+        let a = changed(w[0], i == 0, &change);
+        let b = changed(w[1], i == 1, &change);
+        let c = changed(w[2], i == 2, &change);
+        let d = changed(w[3], i == 3, &change);
+        let e = changed(w[4], i == 4, &change);
+        Bits {
+            words: [a, b, c, d, e],
+        }
     }
 
     pub fn insert(self, p: usize) -> Bits
         requires { p < 320 }
         ensures { result.words ≡ insert_in self.words p }
     {
-        let w = self.words;
-        let i = p / 64;
         let bits = power(p % 64);
-        // A constant place for each word: a computed one would keep the words in memory.
-        let a = with_bits(w[0], bits, i == 0);
-        let b = with_bits(w[1], bits, i == 1);
-        let c = with_bits(w[2], bits, i == 2);
-        let d = with_bits(w[3], bits, i == 3);
-        let e = with_bits(w[4], bits, i == 4);
-        Bits {
-            words: [a, b, c, d, e],
-        }
+        self.with_word(p / 64, move |x| x | bits)
     }
 
     // The set without a place of it.
@@ -119,17 +107,8 @@ impl Bits {
         requires { (p < 320) × (has self.words p ≡ true) }
         ensures { result.words ≡ without self.words p }
     {
-        let w = self.words;
-        let i = p / 64;
         let bits = power(p % 64);
-        let a = without_bits(w[0], bits, i == 0);
-        let b = without_bits(w[1], bits, i == 1);
-        let c = without_bits(w[2], bits, i == 2);
-        let d = without_bits(w[3], bits, i == 3);
-        let e = without_bits(w[4], bits, i == 4);
-        Bits {
-            words: [a, b, c, d, e],
-        }
+        self.with_word(p / 64, move |x| x - bits)
     }
 
     pub fn count(self) -> u32
@@ -139,35 +118,55 @@ impl Bits {
         ones(w[0]) + ones(w[1]) + ones(w[2]) + ones(w[3]) + ones(w[4])
     }
 
-    // The lowest place, and the set without it.
-    pub fn next(self) -> Next
-        ensures { (result ≡ next_of self) × (result.at < 320) }
+    pub fn is_empty(self) -> bool
+        ensures { IsTrue result ↔ members self.words ≡ [] }
     {
-        let w = self.words;
-        let a = w[0];
-        let b = w[1];
-        let c = w[2];
-        let d = w[3];
-        let e = w[4];
+        self.split_first().is_none()
+    }
+
+    // The lowest place, and the set without it.
+    pub fn split_first(self) -> Option<(usize, Bits)>
+        ensures { IsFirst self result }
+    {
+        let [a, b, c, d, e] = self.words;
         if 0 < a {
-            return found_at([without_lowest(a), b, c, d, e], a, 0);
+            return Some(found_at([without_lowest(a), b, c, d, e], a, 0));
         }
         if 0 < b {
-            return found_at([a, without_lowest(b), c, d, e], b, 64);
+            return Some(found_at([a, without_lowest(b), c, d, e], b, 64));
         }
         if 0 < c {
-            return found_at([a, b, without_lowest(c), d, e], c, 128);
+            return Some(found_at([a, b, without_lowest(c), d, e], c, 128));
         }
         if 0 < d {
-            return found_at([a, b, c, without_lowest(d), e], d, 192);
+            return Some(found_at([a, b, c, without_lowest(d), e], d, 192));
         }
         if 0 < e {
-            return found_at([a, b, c, d, without_lowest(e)], e, 256);
+            return Some(found_at([a, b, c, d, without_lowest(e)], e, 256));
         }
-        Next {
-            found: false,
-            at: 0,
-            rest: Bits { words: w },
-        }
+        None
+    }
+
+    pub fn places(self) -> Places
+        ensures { result.left ≡ self }
+    {
+        Places { left: self }
+    }
+}
+
+impl Iterator for Places {
+    ghost use Rattle.std.specs.Iterator.{YieldsFirst, item_count};
+    ghost use Rattle.bitset.specs.Inner.Emptying.{places_left};
+
+    type Item = usize;
+
+    ghost next_gives = { YieldsFirst places_left };
+
+    ghost remaining = { item_count places_left };
+
+    fn next(&mut self) -> Option<usize> {
+        let (place, others) = self.left.split_first()?;
+        self.left = others;
+        Some(place)
     }
 }

@@ -7,7 +7,7 @@ use native.Mathlib.Decide.{ℕ_discrete, dec_lt}
 use native.Mathlib.Nat.{div-eq_of_lt}
 use native.Mathlib.Omega.{arith}
 use lib.Arith.{digits_div}
-use lib.ListN.{length}
+use lib.ListN.{length, get_or}
 use borrow.Author.Tests.{eq-eqb, ne_eqb}
 use Rattle.bitset.specs.Set.{elem, distinct}
 use Rattle.bloom.specs.Bloom.{bloom_bit, at_bits, some_set, may_hold}
@@ -56,15 +56,6 @@ both_pages a b c h k l f = go (ℕ_discrete a c)
 
 -- ---- the bits tried
 
--- the code's numbers are the definitions'
-pub set_as : (pages : List ℕ) (n s code i b : ℕ) (r : Bool) → n ≡ s → b ≡ bloom_bit i (code - 1) → r ≡ some_set (sections_in pages n) b
-    → some_set (sections_in pages s) (bloom_bit i (code - 1)) ≡ r
-set_as pages n s code i b r e f is = sym (rw (e, f) at is)
-
-pub page_as : (l s code i b p : ℕ) → l ≡ fragment_length s → b ≡ bloom_bit i (code - 1) → p ≡ bit_page l b
-    → p ≡ bit_page (fragment_length s) (bloom_bit i (code - 1))
-page_as l s code i b p e f is = rw (e, f) at is
-
 module _ (pages : List ℕ) (s code : ℕ) where
   abbrev sections : List (List ℕ)
   sections = sections_in pages s
@@ -112,6 +103,38 @@ module _ (pages : List ℕ) (s code : ℕ) where
         last : (t : Bool) → bit 0 ∷ bit 1 ∷ bit 2 ∷ cond t [] [] ≡ bit 0 ∷ bit 1 ∷ bit 2 ∷ []
         last true = refl
         last false = refl
+
+-- ---- the same by the code's numbers: n sections, fragments of l bytes, the bits bs
+
+pub record Bits (bs : List ℕ) (code : ℕ) : Type 0 where
+  pub first : get_or bs 0 0 ≡ bloom_bit 0 (code - 1)
+  pub second : get_or bs 1 0 ≡ bloom_bit 1 (code - 1)
+  pub third : get_or bs 2 0 ≡ bloom_bit 2 (code - 1)
+
+pub the_bits : (bs : List ℕ) (code : ℕ) → bs ≡ bits_of code → Bits bs code
+the_bits bs code e = record { first = rw e; second = rw e; third = rw e }
+
+pub bit_small : (which u : ℕ) {b : ℕ} → b ≡ bloom_bit which u → b < 1024
+bit_small which u e = omega (arith, e, bit_below which u)
+
+module _ (pages : List ℕ) (n s l code : ℕ) (bs : List ℕ) (p : n ≡ s) (q : l ≡ fragment_length n) (e : bs ≡ bits_of code) where
+  abbrev met : ℕ → Bool
+  met i = some_set (sections_in pages n) (get_or bs i 0)
+
+  abbrev on : ℕ → ℕ
+  on i = bit_page l (get_or bs i 0)
+
+  pub trial_one : met 0 ≡ false → Trial pages s code false 1
+  trial_one f = tried_one pages s code (rw (e, p) at f)
+
+  module _ (first : met 0 ≡ true) (a b m : ℕ) (a_is : a ≡ on 0) (b_is : b ≡ on 1) where
+    pub trial_two : met 1 ≡ false → m ≡ distinct (a ∷ b ∷ []) → Trial pages s code false m
+    trial_two f is = tried_two pages s code (rw (e, p) at first) (rw (e, p) at f) m (is ∙ rw (a_is, b_is, q, p, e))
+
+    pub trial_three : met 1 ≡ true → (d : ℕ) → d ≡ on 2 → m ≡ distinct (a ∷ b ∷ d ∷ []) → (t : Bool) → t ≡ met 2 → Trial pages s code t m
+    trial_three f d d_is is t t_is =
+        let third : t ≡ set pages s code (bit pages s code 2) = t_is ∙ rw (p, e) in
+        rw third (tried_three pages s code (rw (e, p) at first) (rw (e, p) at f) m (is ∙ rw (a_is, b_is, d_is, q, p, e)))
 
 -- ---- never more than two pages
 

@@ -17,15 +17,9 @@ use Rattle.codec.proofs.Truth.{or_second}
 use Rattle.bitset.specs.Set.{elem}
 use Rattle.bitset.specs.Inner.Words.{bit}
 use Rattle.bitset.proofs.Digits.{or_cell_same, or_cell_other}
-use Rattle.bloom.specs.Bloom.{multiplier, bloom_bit, mask, is_set, set_in, noted, noted_all, empty_section, section_of}
+use Rattle.bloom.specs.Bloom.{bloom_bit, mask, is_set, set_in, noted, noted_all, empty_section, section_of}
 use Rattle.bloom.specs.Bloom.{at_bits, some_set, may_hold}
 use Rattle.bloom.specs.Inner.Holds.{holds}
-
-pub third : (n : ℕ) → (n ≡ 0 → ⊥) → (n ≡ 1 → ⊥) → multiplier n ≡ 3_266_489_917
-unfolding multiplier
-third zero p q = absurd (p refl)
-third (suc zero) p q = absurd (q refl)
-third (suc (suc n)) p q = refl
 
 pub bit_below : (which u : ℕ) → bloom_bit which u < 1024
 unfolding bloom_bit

@@ -11,7 +11,7 @@ use Rattle.bloom.specs.Pages.{each, section_count, fragment_length, sections_fro
 use Rattle.codec.specs.Area.{part, splice}
 use Rattle.codec.proofs.Areas.{length_part, get_d_part}
 use Rattle.bloom.proofs.Filling.{Filled, filled_more}
-use Rattle.bloom.proofs.Fragments.{Length, fragment_length_lem, fragment_room, page_at, page_past, length_page}
+use Rattle.bloom.proofs.Fragments.{fragment_length_lem, fragment_room, page_at, page_past, length_page}
 use Rattle.bloom.proofs.Stored.{length_sections_from, length_section}
 
 -- ---- a page of the open segment
@@ -21,6 +21,20 @@ pub length_open_page_lem : (nor buffer : List ℕ) (count i : ℕ) → 1 ≤ cou
 length_open_page_lem nor buffer count i some most =
     let e = length_sections_from nor buffer count in
     length_page (sections_from nor buffer count) i (fragment_length_lem _ (omega arith) (omega arith))
+
+-- where the fragments of section j come from and go to
+pub record Fragment (i l j : ℕ) : Type 0 where
+  pub start : i * l ≤ 128
+  pub long : l ≤ 128
+  pub room : j * l + l ≤ 512
+
+pub fragment_at : (count i s l j : ℕ) → 1 ≤ count → count ≤ 320 → s ≡ section_count count → l ≡ fragment_length s → i < 2 → j < s
+    → Fragment i l j
+fragment_at count i s l j some most a b h k =
+    let f = fragment_length_lem s (omega arith) (omega arith) in
+    let m : i ≤ 1 = omega arith in
+    let n : l ≤ 128 = omega (arith, f.most) in
+    record { start = omega (arith, mul-le-mul_right l m); long = n; room = rw b (fragment_room s j f k) }
 
 module _ (nor buffer : List ℕ) (count i s l : ℕ) (some : 1 ≤ count) (most : count ≤ 320) (a : s ≡ section_count count)
     (b : l ≡ fragment_length s) where
@@ -33,24 +47,8 @@ module _ (nor buffer : List ℕ) (count i s l : ℕ) (some : 1 ≤ count) (most 
   length_is : l ≡ fragment_length (length sections)
   length_is = b ∙ ap fragment_length (a ∙ sym (length_sections_from nor buffer count))
 
-  facts : Length s
-  facts = fragment_length_lem s (omega arith) (omega arith)
-
-  -- where the fragments of section j come from and go to
-  pub record Fragment (j : ℕ) : Type 0 where
-    pub start : i * l ≤ 128
-    pub long : l ≤ 128
-    pub room : j * l + l ≤ 512
-
-  pub fragment_at : (j : ℕ) → i < 2 → j < s → Fragment j
-  fragment_at j h k =
-      let m : i ≤ 1 = omega arith in
-      let r = fragment_room s j facts k in
-      let n : l ≤ 128 = omega (arith, facts.most) in
-      record { start = omega (arith, mul-le-mul_right l m); long = n; room = rw b r }
-
   module _ (nor_size : length nor ≡ 6144) (buffer_size : length buffer ≡ 128) (j n : ℕ) (j_in : j < s)
-      (n_is : n ≡ min (i * l + l) 128 - i * l) where
+      (n_is : n ≡ min 128 (i * l + l) - i * l) where
     abbrev section : List ℕ
     section = get_or sections j []
 

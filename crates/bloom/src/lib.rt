@@ -4,9 +4,9 @@
 ghost use Rattle.std.specs.Prelude.{◌≡◌, [], ◌∷◌, ◌+◌, ◌*◌, ◌-◌, ◌^◌, ◌%◌, ◌/◌, ◌<◌, ◌≤◌, min, length, get_or};
 ghost use Rattle.codec.specs.Area.{part, splice};
 ghost use Rattle.flash.specs.Chip.{nor_width};
-ghost use Rattle.bloom.specs.Bloom.{bloom_bit, set_in, in_byte, noted, empty_section, some_set, may_hold};
+ghost use Rattle.bloom.specs.Bloom.{set_in, in_byte, noted, empty_section, some_set, may_hold};
 ghost use Rattle.bitset.specs.Set.{distinct};
-ghost use Rattle.bloom.specs.Tried.{bit_page, pages_tried};
+ghost use Rattle.bloom.specs.Tried.{bits_of, bit_page, pages_tried};
 ghost use Rattle.bloom.specs.Pages.{section_count, fragment_length, sections_from, bloom_page, section_in, sections_in};
 
 use flash::PAGE_BYTES;
@@ -16,6 +16,9 @@ pub const SECTION_BYTES: usize = 128;
 
 pub const LIFTS_PER_SECTION: usize = 64;
 
+// A of the first, the second and the third bit.
+const MULTIPLIERS: [u64; 3] = [2654435761, 2246822519, 3266489917];
+
 // Whether a load may be in a segment, and how many of its Bloom pages hold a bit that was tried.
 #[derive(Clone, Copy)]
 pub struct Tried {
@@ -23,52 +26,32 @@ pub struct Tried {
     pub pages: u8,
 }
 
-// Which of a load's three bits.
-pub fn bloom_bit(code: u32, which: u8) -> u16
+// A load's three bits.
+pub fn bits_of(code: u32) -> [u16; 3]
     requires { 1 ≤ code }
-    ensures { (result ≡ bloom_bit which (code - 1)) × (result < 1024) }
+    ensures { result ≡ bits_of code }
 {
     let u = (code - 1) as u64;
-    match which {
-        0 => cut(u * 2654435761),
-        1 => cut(u * 2246822519),
-        _ => cut(u * 3266489917),
-    }
+    [
+        cut(u * MULTIPLIERS[0]),
+        cut(u * MULTIPLIERS[1]),
+        cut(u * MULTIPLIERS[2]),
+    ]
 }
 
 fn cut(p: u64) -> u16
-    ensures { (result ≡ p % 2 ^ 32 / 2 ^ 22) × (result < 1024) }
+    ensures { result ≡ p % 2 ^ 32 / 2 ^ 22 }
 {
     ((p % 4294967296) / 4194304) as u16
 }
 
-pub fn set_bit(section: [u8; SECTION_BYTES], b: u16) -> [u8; SECTION_BYTES]
-    requires { b < 1024 }
-    ensures { result ≡ set_in section b }
-{
-    let mut s = section;
-    let i = (b / 8) as usize;
-    s[i] = s[i] | (128u8 >> (b % 8));
-    s
-}
-
-// The three bits of a load.
-pub fn note(section: [u8; SECTION_BYTES], code: u32) -> [u8; SECTION_BYTES]
-    requires { 1 ≤ code }
-    ensures { result ≡ noted section code }
-{
-    let one = set_bit(section, bloom_bit(code, 0));
-    let two = set_bit(one, bloom_bit(code, 1));
-    set_bit(two, bloom_bit(code, 2))
-}
-
 // Bit b of the section that stands in an area from `at` on.
-fn set_at(s: &mut [u8], at: usize, b: u16)
+pub fn set_at(s: &mut [u8], at: usize, b: u16)
     requires { (at + 128 ≤ length s.old) × (b < 1024) }
     ensures { s.new ≡ splice s.old at (set_in (part s.old at 128) b) }
 {
     let i = at + (b / 8) as usize;
-    s[i] = s[i] | (128u8 >> (b % 8));
+    s[i] |= 128u8 >> (b % 8);
 }
 
 // The three bits of a load, in such a section: nothing else of the area is touched.
@@ -76,9 +59,20 @@ pub fn note_at(s: &mut [u8], at: usize, code: u32)
     requires { (at + 128 ≤ length s.old) × (1 ≤ code) }
     ensures { s.new ≡ splice s.old at (noted (part s.old at 128) code) }
 {
-    set_at(s, at, bloom_bit(code, 0));
-    set_at(s, at, bloom_bit(code, 1));
-    set_at(s, at, bloom_bit(code, 2));
+    let [first, second, third] = bits_of(code);
+    set_at(s, at, first);
+    set_at(s, at, second);
+    set_at(s, at, third);
+}
+
+// The three bits of a load, in a section by value.
+pub fn note(section: [u8; SECTION_BYTES], code: u32) -> [u8; SECTION_BYTES]
+    requires { 1 ≤ code }
+    ensures { result ≡ noted section code }
+{
+    let mut s = section;
+    note_at(&mut s, 0, code);
+    s
 }
 
 pub fn empty_section() -> [u8; SECTION_BYTES]
@@ -98,20 +92,7 @@ pub fn fragment_of(sections: usize) -> usize
     requires { 1 ≤ sections }
     ensures { result ≡ fragment_length sections }
 {
-    let l = 512 / sections;
-    let is_short = l < 128;
-    if is_short { l } else { 128 }
-}
-
-// Where a fragment from `from` on ends: after l bytes, or at the section's end.
-fn end_of(from: usize, l: usize) -> usize
-    requires { (from ≤ 128) × (l ≤ 128) }
-    ensures { result ≡ min (from + l) 128 }
-{
-    if from + l < SECTION_BYTES {
-        return from + l;
-    }
-    SECTION_BYTES
+    SECTION_BYTES.min(PAGE_BYTES / sections)
 }
 
 // Bytes `from` to `to` of section j go to `at`: a whole section is in NOR, a part-filled one in the buffer.
@@ -132,12 +113,10 @@ fn put_fragment(
 {
     if (j + 1) * LIFTS_PER_SECTION <= count as usize {
         let start = flash::TREE_BYTES + j * SECTION_BYTES;
-        let a = start + from;
-        let e = start + to;
-        codec::copy(d, at, &nor[a..e]);
-        return;
+        codec::copy(d, at, &nor[start + from..start + to]);
+    } else {
+        codec::copy(d, at, &buffer[from..to]);
     }
-    codec::copy(d, at, &buffer[from..to]);
 }
 
 // Bloom page i, 0 or 1, of the open segment.
@@ -149,11 +128,9 @@ pub fn bloom_page(nor: &[u8], buffer: [u8; SECTION_BYTES], count: u16, i: usize)
     let s = sections_of(count);
     let l = fragment_of(s);
     let from = i * l;
-    let to = end_of(from, l);
-    let mut j: usize = 0;
-    while j < s {
+    let to = SECTION_BYTES.min(from + l);
+    for j in 0..s {
         put_fragment(&mut d, j * l, nor, &buffer, count, j, from, to);
-        j += 1;
     }
     d
 }
@@ -164,9 +141,10 @@ fn stored_byte(pages: &[u8], l: usize, j: usize, n: usize) -> u8
     ensures { result ≡ get_or (section_in pages.now l j) n 0 }
 {
     if n < l {
-        return pages[j * l + n];
+        pages[j * l + n]
+    } else {
+        pages[PAGE_BYTES + j * l + (n - l)]
     }
-    pages[512 + j * l + (n - l)]
 }
 
 // Whether bit b is set in its byte.
@@ -182,13 +160,10 @@ fn in_some(pages: &[u8], s: usize, l: usize, b: u16) -> bool
     ensures { result ≡ some_set (sections_in pages.now s) b }
 {
     let n = (b / 8) as usize;
-    let mut j: usize = 0;
-    while j < s {
-        let x = stored_byte(pages, l, j, n);
-        if has_bit(x, b) {
+    for j in 0..s {
+        if has_bit(stored_byte(pages, l, j, n), b) {
             return true;
         }
-        j += 1;
     }
     false
 }
@@ -223,14 +198,13 @@ pub fn try_bits(pages: &[u8], count: u16, code: u32) -> Tried
 {
     let s = sections_of(count);
     let l = fragment_of(s);
-    let first = bloom_bit(code, 0);
+    let [first, second, third] = bits_of(code);
     if !in_some(pages, s, l, first) {
         return Tried {
             held: false,
             pages: 1,
         };
     }
-    let second = bloom_bit(code, 1);
     let a = bit_page(first, l);
     let b = bit_page(second, l);
     if !in_some(pages, s, l, second) {
@@ -239,7 +213,6 @@ pub fn try_bits(pages: &[u8], count: u16, code: u32) -> Tried
             pages: pages_of_two(a, b),
         };
     }
-    let third = bloom_bit(code, 2);
     let c = bit_page(third, l);
     let held = in_some(pages, s, l, third);
     Tried {

@@ -1,4 +1,3 @@
-pub mod Grounds
 pub mod Tests
 pub mod Within
 pub mod TriedFirst

@@ -41,3 +41,10 @@ lift_ground time load next current rest =
 unfoldable pub query_ground : ℕ → ℕ → ℤ → ℤ → ℕ
 query_ground t1 t2 k1 k2 =
     ground 4 (not (time_ok t1 && time_ok t2)) (ground 5 (not (load_ok k1 && load_ok k2)) (ground 6 (ltb t2 t1 || lt_z k2 k1) 0))
+
+-- its two parts: 4 and 5, then what the later grounds give; 6
+abbrev pub limits_ground : ℕ → ℕ → ℤ → ℤ → ℕ → ℕ
+limits_ground t1 t2 k1 k2 rest = ground 4 (not (time_ok t1 && time_ok t2)) (ground 5 (not (load_ok k1 && load_ok k2)) rest)
+
+abbrev pub ranges_ground : ℕ → ℕ → ℤ → ℤ → ℕ
+ranges_ground t1 t2 k1 k2 = ground 6 (ltb t2 t1 || lt_z k2 k1) 0

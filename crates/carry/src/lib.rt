@@ -20,7 +20,8 @@ const KEPT_BYTES: usize = 15872;
 
 const POINTERS_AT: usize = 40;
 
-// S, and the serials that are retained as closed: from `oldest` to the one before `current`, the open serial.
+// S, and the serials that are retained as closed: from `oldest` to the one before `current`, the open serial. That they are in order
+// stands in the contracts and not in the type: `serials_of` (conversion/specs/Inner/Pieces) makes one of any state, good or not.
 #[derive(Clone, Copy)]
 pub struct Serials {
     pub slots: u64,
@@ -28,7 +29,7 @@ pub struct Serials {
     pub current: u32,
 }
 
-// The form that a store is carried from.
+// The form that a store is carried from. Not a method of Form: the theorems of round_trips cite `other` of specs/Carried.
 pub fn other(form: Form) -> Form
     ensures { result ≡ Carried.other form }
 {
@@ -51,10 +52,7 @@ fn with_serial(p: Pointer, n: u32, m: u32) -> Pointer
     requires { (1 ≤ n) × (1 ≤ m) }
     ensures { (k : ℕ) → m ≡ 2 ^ k → result ≡ pointer_into New n k p }
 {
-    if p.is_none() {
-        return Pointer::new(p.slot, 0, p.time);
-    }
-    let serial = multiple_below(n, m);
+    let serial = if p.is_none() { 0 } else { multiple_below(n, m) };
     Pointer::new(p.slot, serial, p.time)
 }
 
@@ -113,8 +111,7 @@ fn carry_slot(to: &mut [u8], nand: &[u8], slots: u64, n: u32, form: Form)
 {
     let slot = flash::slot_of(n, slots);
     let a = slot * flash::SLOT_BYTES;
-    let e = a + KEPT_BYTES;
-    codec::copy(to, a, &nand[a..e]);
+    codec::copy(to, a, &nand[a..a + KEPT_BYTES]);
     let h = flash::pages_of(nand, slot, Page(flash::HEADER_LAST), 1);
     let d = carried_header(h, form, n);
     flash::program(to, slot, Page(flash::HEADER_LAST), d);
@@ -127,12 +124,8 @@ fn carry_closed(to: &mut [u8], nand: &[u8], s: Serials, form: Form)
     ensures { to.new
         ≡ closed_into form (s.current - s.oldest) s.oldest nand.now s.slots to.old }
 {
-    let slots = s.slots;
-    let current = s.current;
-    let mut n = s.oldest;
-    while n < current {
-        carry_slot(to, nand, slots, n, form);
-        n += 1;
+    for n in s.oldest..s.current {
+        carry_slot(to, nand, s.slots, n, form);
     }
 }
 
@@ -144,8 +137,7 @@ fn carry_open(to: &mut [u8], nand: &[u8], slots: u64, current: u32)
     flash::erase_chip(to);
     let slot = flash::slot_of(current, slots);
     let a = slot * flash::SLOT_BYTES;
-    let e = a + flash::SLOT_BYTES;
-    codec::copy(to, a, &nand[a..e]);
+    codec::copy(to, a, &nand[a..a + flash::SLOT_BYTES]);
 }
 
 pub fn carry_nand(to: &mut [u8], nand: &[u8], s: Serials, form: Form)
@@ -165,19 +157,7 @@ fn next_back(current: u32, count: u16, next: u64) -> u64
     ensures { result ≡ next_into Old current count next }
 {
     let new = (current == 1) & (count == 0);
-    if new {
-        return 0;
-    }
-    next + 1
-}
-
-fn next_there(next: u64) -> u64
-    ensures { result ≡ next - 1 }
-{
-    if next == 0 {
-        return 0;
-    }
-    next - 1
+    if new { 0 } else { next + 1 }
 }
 
 fn carried_next(form: Form, current: u32, count: u16, next: u64) -> u64
@@ -186,7 +166,7 @@ fn carried_next(form: Form, current: u32, count: u16, next: u64) -> u64
 {
     match form {
         Form::Old => next_back(current, count, next),
-        Form::New => next_there(next),
+        Form::New => next.saturating_sub(1),
     }
 }
 
@@ -194,11 +174,8 @@ pub fn carried_state(mut s: State, form: Form) -> State
     requires { (1 ≤ s.current) × (s.next ≤ 1000000000000000) }
     ensures { result ≡ state_into form s }
 {
-    let old = s.heads;
-    let heads = carried_pointers(old, form, s.current);
-    let next = carried_next(form, s.current, s.count, s.next);
-    s.heads = heads;
-    s.next = next;
+    s.heads = carried_pointers(s.heads, form, s.current);
+    s.next = carried_next(form, s.current, s.count, s.next);
     s
 }
 
@@ -210,10 +187,10 @@ pub fn first_time(nand: &[u8], slots: u64, s: State) -> u64
     if s.oldest < s.current {
         let slot = flash::slot_of(s.oldest, slots);
         let h = flash::pages_of(nand, slot, Page(flash::HEADER_LAST), 1);
-        return codec::get_u64(h, 16);
+        codec::get_u64(h, 16)
+    } else if s.count == 0 {
+        next_back(s.current, s.count, s.next)
+    } else {
+        s.start
     }
-    if s.count == 0 {
-        return next_back(s.current, s.count, s.next);
-    }
-    s.start
 }

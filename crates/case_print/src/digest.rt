@@ -2,34 +2,20 @@
 
 const START: u64 = 14695981039346656037;
 
-pub fn get(s: &[u8], at: usize) -> u8 {
-    if at < s.len() {
-        return s[at];
-    }
-    0
-}
+const PRIME: u64 = 1099511628211;
 
-// Times 2^40 + 2^8 + 179, modulo 2^64.
-fn times_prime(h: u64) -> u64 {
-    let a = (h << 40).wrapping_add(h << 8);
-    let b = (h << 7).wrapping_add(h << 5);
-    let c = (h << 4).wrapping_add(h << 1);
-    let d = a.wrapping_add(b);
-    let e = c.wrapping_add(h);
-    d.wrapping_add(e)
-}
-
-// Of the first n bytes.
-pub fn of_first(s: &[u8], n: usize) -> u64 {
-    let mut h = START;
-    let mut i: usize = 0;
-    while i < n {
-        h = times_prime(h ^ (get(s, i) as u64));
-        i += 1;
-    }
-    h
+fn with_byte(hash: u64, byte: u8) -> u64 {
+    (hash ^ u64::from(byte)).wrapping_mul(PRIME)
 }
 
 pub fn of(s: &[u8]) -> u64 {
-    of_first(s, s.len())
+    s.iter().fold(START, |hash, byte| with_byte(hash, *byte))
+}
+
+// Of the first n bytes, of which those past the end are 0.
+pub fn of_first(s: &[u8], n: usize) -> u64 {
+    (0..n).fold(
+        START,
+        |hash, i| with_byte(hash, s.get(i).copied().unwrap_or(0)),
+    )
 }

@@ -1,15 +1,17 @@
--- The turns of the loops of `get`, `put`, `copy`, `fill` and `all_ones`. Assumes nothing.
-use mathlib.Core.Path.{◌≡◌, refl}
+-- The turns of the loops of `get`, `put` and `all_ones`, and the runs that these lend out. Assumes nothing.
+use mathlib.Core.Path.{◌≡◌, refl, sym, ◌∙◌}
 use mathlib.Core.Bool.{Bool, true, false, ◌&&◌}
-use mathlib.Core.List.{List, ◌∷◌}
+use mathlib.Core.List.{List, [], append_assoc}
 use Prim.Native.Nat.{ℕ, zero, suc, ◌+◌, ◌-◌, ◌*◌, ◌/◌, ◌%◌, ◌^◌, ◌≤◌, ◌<◌}
 use native.Mathlib.Nat.{pow-suc, pow-le-pow_right, lt_of_lt_of_le}
 use native.Mathlib.Numerals.{add-one}
 use native.Mathlib.Omega.{arith}
 use lib.Dec.{eqb}
-use lib.ListN.{length, take, get_or, set}
-use lib.Seq.{sets, sets-eq, drop-cons, paste, take_all}
-use Rattle.codec.specs.Area.{part, splice, repeated, all_ones}
+use borrow.Rule.Slice.PartMut.{put_mid, Post-is}
+use lib.ListN.{length, take, drop, get_or, set}
+use lib.Seq.{sets, sets-eq, drop-cons}
+use Rattle.std.proofs.lemmas.List.{append-nil, drop_all}
+use Rattle.codec.specs.Area.{part, splice, all_ones}
 use Rattle.codec.specs.Number.{le, bytes, number_at}
 
 -- ---- get: acc is the number in the bytes passed, the last n - i
@@ -40,14 +42,20 @@ get_none s at n =
     let e : n - n ≡ 0 = omega arith in
     rw e (refl, omega arith)
 
-pub get_all : (s : List ℕ) (at n i acc : ℕ) → i ≤ 0 → (acc ≡ number_at s (at + i) (n - i)) × (acc < 256 ^ (n - i))
-    → (acc ≡ number_at s at n) × (acc < 256 ^ n)
-get_all s at n i acc h p =
-    let e : at + i ≡ at = omega arith in
-    let k : n - i ≡ n = omega arith in
-    rw (e, k) at p
+-- ---- a run of an area that was lent as a slice, when it is back
 
--- ---- put and fill: what is left to store, stored, gives what the whole gives
+pub back : (s : List ℕ) (at n : ℕ) (ys p : List ℕ) → ys ≡ p → length p ≡ n → put_mid at (at + n - at) s ys ≡ splice s at p
+unfolding splice
+back s at n ys p e l =
+    let k : at ≤ at + n = omega arith in
+    rw (Post-is at (at + n) s k, e, l) (sym (append_assoc (take at s) p _))
+
+-- ---- put: what is left to store, stored, gives what the whole gives
+
+pub put_none : (s p : List ℕ) → length s ≡ length p → sets s 0 p ≡ p
+put_none s p e =
+    let d : drop (0 + length p) s ≡ [] = drop_all (0 + length p) s (omega arith) in
+    sets-eq p s 0 (omega arith) ∙ rw d (append-nil p)
 
 pub put_step : (s : List ℕ) (to left rest : ℕ) → 0 < left
     → sets (set s to (rest % 256)) (to + 1) (bytes (left - 1) (rest / 256)) ≡ sets s to (bytes left rest)
@@ -61,39 +69,15 @@ pub sets_done : (s : List ℕ) (at n : ℕ) (p : List ℕ) → length p ≡ n �
 unfolding splice
 sets_done s at n p l h = sets-eq p s at (omega arith)
 
-pub fill_step : (s : List ℕ) (to left v : ℕ) → 0 < left
-    → sets (set s to v) (to + 1) (repeated (left - 1) v) ≡ sets s to (repeated left v)
-unfolding repeated
-fill_step s to zero v h = absurd (omega arith)
-fill_step s to (suc k) v h =
-    let e : suc k - 1 ≡ k = omega arith in
-    rw (add-one, e)
-
--- ---- copy
-
-pub copy_done : (s : List ℕ) (at : ℕ) (p : List ℕ) (i : ℕ) → length p ≡ i → paste s at p i ≡ splice s at p
-unfolding splice
-copy_done s at p i e =
-    let a : take i p ≡ p = take_all i p (omega arith) in
-    rw (a, ← e)
-
 -- ---- all_ones
 
--- a part that is not empty: its first byte, and the rest
-pub part_step : (s : List ℕ) (to left : ℕ) → 0 < left → to < length s → part s to left ≡ get_or s to 0 ∷ part s (to + 1) (left - 1)
-unfolding part
-part_step s to zero h k = absurd (omega arith)
-part_step s to (suc n) h k =
-    let e : suc n - 1 ≡ n = omega arith in
-    rw (add-one, e, drop-cons s to 0)
-
-pub ones_more : (s : List ℕ) (good : Bool) (to left : ℕ) → 0 < left → to < length s
-    → ((good && eqb (get_or s to 0) 255) && all_ones (part s (to + 1) (left - 1))) ≡ (good && all_ones (part s to left))
+pub ones_more : (s : List ℕ) (good : Bool) (i : ℕ) → i < length s
+    → ((good && eqb (get_or s i 0) 255) && all_ones (drop (i + 1) s)) ≡ (good && all_ones (drop i s))
 unfolding all_ones
-ones_more s true to left h k = rw (part_step s to left h k)
-ones_more s false to left h k = refl
+ones_more s true i h = rw (drop-cons s i 0, add-one)
+ones_more s false i h = refl
 
-pub ones_none : (s : List ℕ) (good : Bool) (to left : ℕ) → left ≡ 0 → good ≡ (good && all_ones (part s to left))
-unfolding all_ones part
-ones_none s true to left z = rw z
-ones_none s false to left z = refl
+pub ones_none : (s : List ℕ) (good : Bool) (i : ℕ) → length s ≤ i → good ≡ (good && all_ones (drop i s))
+unfolding all_ones
+ones_none s true i h = rw (drop_all i s h)
+ones_none s false i h = refl

@@ -11,9 +11,7 @@ pub fn get(s: &[u8], at: usize, n: usize) -> u64
     ensures { (result ≡ number_at s.now at n) × (result < 256 ^ n) }
 {
     let mut acc: u64 = 0;
-    let mut i = n;
-    while 0 < i {
-        i -= 1;
+    for i in (0..n).rev() {
         acc = acc * 256 + s[at + i] as u64;
     }
     acc
@@ -24,17 +22,14 @@ pub fn put(s: &mut [u8], at: usize, n: usize, v: u64)
     requires { at + n ≤ length s.old }
     ensures { s.new ≡ splice s.old at (bytes n v) }
 {
-    let mut left = n;
-    let mut to = at;
     let mut rest = v;
-    while 0 < left {
-        s[to] = (rest % 256) as u8;
-        rest = rest / 256;
-        to += 1;
-        left -= 1;
+    for b in s[at..at + n].iter_mut() {
+        *b = (rest % 256) as u8;
+        rest /= 256;
     }
 }
 
+// One line for each width over `get` and `put`: a trait for `get::<u32>` is no plainer, its impls would be these same lines.
 pub fn get_u8(s: &[u8], at: usize) -> u8
     requires { at + 1 ≤ length s.now }
     ensures { result ≡ number_at s.now at 1 }
@@ -96,11 +91,7 @@ pub fn copy(s: &mut [u8], at: usize, src: &[u8])
     requires { at + length src.now ≤ length s.old }
     ensures { s.new ≡ splice s.old at src.now }
 {
-    let mut i: usize = 0;
-    while i < src.len() {
-        s[at + i] = src[i];
-        i += 1;
-    }
+    s[at..at + src.len()].copy_from_slice(src);
 }
 
 // The n bytes from `at` become v.
@@ -108,13 +99,7 @@ pub fn fill(s: &mut [u8], at: usize, n: usize, v: u8)
     requires { at + n ≤ length s.old }
     ensures { s.new ≡ splice s.old at (repeated n v) }
 {
-    let mut left = n;
-    let mut to = at;
-    while 0 < left {
-        s[to] = v;
-        to += 1;
-        left -= 1;
-    }
+    s[at..at + n].fill(v);
 }
 
 // Whether the n bytes from `at` are all 255. No early return: without one many bytes are tested at a time.
@@ -123,12 +108,8 @@ pub fn all_ones(s: &[u8], at: usize, n: usize) -> bool
     ensures { result ≡ all_ones (part s.now at n) }
 {
     let mut good = true;
-    let mut left = n;
-    let mut to = at;
-    while 0 < left {
-        good = good & (s[to] == 255);
-        to += 1;
-        left -= 1;
+    for b in &s[at..at + n] {
+        good &= *b == 255;
     }
     good
 }

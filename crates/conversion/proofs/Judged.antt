@@ -13,7 +13,7 @@ use Rattle.form.specs.declared.Form.TheVariants.{Old, New}
 use Rattle.header.specs.Header.{header_good, header_in}
 use Rattle.header.proofs.HeaderFacts.{header_facts}
 use Rattle.bounds.specs.Bounds.{serials_ok, counts_ok, times_ok, span_ok, loads_ok}
-use Rattle.bounds.specs.Grounds.{ground, nand_bad, nor_bad, format_ground}
+use Rattle.bounds.specs.Grounds.{ground, sooner, nand_bad, nor_bad, format_ground}
 use Rattle.bounds.proofs.Within as Within
 use Rattle.store.specs.declared.OldState.{OldState}
 use Rattle.store.specs.declared.State.{State}
@@ -31,50 +31,23 @@ use Rattle.retained.proofs.Seeking.{none_has}
 
 -- ---- grounds 1 and 2 of both stores
 
-module _ (nand nor slots to_nand to_nor a b : ℕ) (first : a ≡ format_ground nand nor slots) (second : b ≡ format_ground to_nand to_nor slots) where
-  abbrev Judges : ℕ → Type 0
-  Judges n =
-      (w x y z : Bool) → a ≡ ground 1 w (ground 2 x 0) → b ≡ ground 1 y (ground 2 z 0)
-      → n ≡ ground 1 (w || y) (ground 2 (x || z) 0)
+-- the one that is tried first
+both_rows : (w x y z : Bool) → sooner (ground 1 w (ground 2 x 0)) (ground 1 y (ground 2 z 0)) ≡ ground 1 (w || y) (ground 2 (x || z) 0)
+unfolding sooner
+both_rows true x true z = refl
+both_rows true x false true = refl
+both_rows true x false false = refl
+both_rows false true true z = refl
+both_rows false true false true = refl
+both_rows false true false false = refl
+both_rows false false true z = refl
+both_rows false false false true = refl
+both_rows false false false false = refl
 
-  judged : (n : ℕ) → Judges n → n ≡ lengths_ground nand nor slots to_nand to_nor
-  unfolding format_ground lengths_ground
-  judged n f = f (nand_bad nand slots) (nor_bad nor) (nand_bad to_nand slots) (nor_bad to_nor) first second
-
-  pub first_nand : a ≡ 1 → 1 ≡ lengths_ground nand nor slots to_nand to_nor
-  first_nand e = judged 1 go
-    where
-      go : Judges 1
-      go true x y z p q = refl
-      go false true y z p q = absurd (omega arith)
-      go false false y z p q = absurd (omega arith)
-
-  pub second_nand : b ≡ 1 → 1 ≡ lengths_ground nand nor slots to_nand to_nor
-  second_nand e = judged 1 go
-    where
-      go : Judges 1
-      go true x y z p q = refl
-      go false x true z p q = refl
-      go false x false true p q = absurd (omega arith)
-      go false x false false p q = absurd (omega arith)
-
-  pub first_nor : (a ≡ 1 → ⊥) → (b ≡ 1 → ⊥) → (a ≡ 0 → ⊥) → a ≡ lengths_ground nand nor slots to_nand to_nor
-  first_nor f g h = judged a go
-    where
-      go : Judges a
-      go true x y z p q = absurd (f p)
-      go false x true z p q = absurd (g q)
-      go false true false z p q = p
-      go false false false z p q = absurd (h p)
-
-  pub second_nor : a ≡ 0 → (b ≡ 1 → ⊥) → b ≡ lengths_ground nand nor slots to_nand to_nor
-  second_nor e g = judged b go
-    where
-      go : Judges b
-      go true x y z p q = absurd (omega arith)
-      go false true y z p q = absurd (omega arith)
-      go false false true z p q = absurd (g q)
-      go false false false z p q = q
+pub both_lengths : (nand nor slots to_nand to_nor : ℕ)
+    → sooner (format_ground nand nor slots) (format_ground to_nand to_nor slots) ≡ lengths_ground nand nor slots to_nand to_nor
+unfolding format_ground lengths_ground
+both_lengths nand nor slots to_nand to_nor = both_rows (nand_bad nand slots) (nor_bad nor) (nand_bad to_nand slots) (nor_bad to_nor)
 
 -- the second store's lengths are right where none of them holds
 pub lengths_fit : (nand nor slots to_nand to_nor : ℕ) → lengths_ground nand nor slots to_nand to_nor ≡ 0

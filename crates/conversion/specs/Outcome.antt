@@ -1,6 +1,9 @@
 -- The two calls that carry a store into the other form (document 02, W-203): their grounds in checking order and their outcomes, for
 -- any chips and any state of the first store and any chips of the second. Assumes nothing.
 use Rattle.std.specs.Prelude.{Bool, false, not, ◌||◌, List, ℕ, length}
+use Rattle.std.specs.declared.result.Result.{Result}
+use Rattle.std.specs.declared.result.Result.TheVariants.{Ok, Err}
+use Rattle.grounds.specs.declared.Ground.{Ground}
 use Rattle.form.specs.declared.Form.{Form}
 use Rattle.form.specs.declared.Form.TheVariants.{Old, New}
 use Rattle.bounds.specs.Grounds.{ground, nand_bad, nor_bad}
@@ -50,6 +53,11 @@ forward_outcome nand nor old slots toNand toNor = carry_outcome New (old_world n
 
 abbrev pub backward_outcome : List ℕ → List ℕ → State → ℕ → List ℕ → List ℕ → Outcome
 backward_outcome nand nor s slots toNand toNor = carry_outcome Old (world nand nor s) slots toNand toNor
+
+-- the second store's state after a call: the one that it hands back, or, refused, the formatted one
+abbrev pub next_old_state : Result OldState Ground → OldState
+next_old_state (Ok o) = o
+next_old_state (Err g) = record { state = formatted; live = 0 }
 
 -- what a call that hands back a state of form 0 leaves
 abbrev pub old_returned : ℕ → List ℕ → List ℕ → OldState → Outcome

@@ -2,42 +2,34 @@
 #![tactic(auto)]
 
 ghost use Rattle.std.specs.Prelude.{◌≡◌, true, [], ◌*◌, ◌≤◌, length};
+ghost use Rattle.grounds.specs.Numbers.{number_in};
 ghost use Rattle.flash.specs.Chip.{slot_width};
 ghost use Rattle.form.specs.declared.Form.TheVariants.{Old};
 ghost use Rattle.store.specs.World.{world};
-ghost use Rattle.store.specs.Calls.{returned};
+ghost use Rattle.store.specs.Calls.{returned, next_state, formatted};
 ghost use Rattle.carry.specs.Carried.{nand_into};
-ghost use Rattle.conversion.specs.Outcome.{cannot_go_back, forward_outcome, backward_outcome, old_returned};
+ghost use Rattle.conversion.specs.Outcome.{cannot_go_back, forward_outcome, backward_outcome, old_returned, next_old_state};
 ghost use Rattle.conversion.specs.Inner.Pieces.{lengths_ground, store_of, early_grounds, back_grounds, NoGround};
 
 use carry::Serials;
 use form::Form;
-use retained::headers::Sought;
-use store::{Answer, OldState, State};
-
-// A call's number, and the second store's state in form 0.
-#[derive(Clone, Copy)]
-pub struct OldAnswer {
-    pub number: u8,
-    pub state: OldState,
-}
+use grounds::Ground;
+use store::{OldState, State};
 
 // Grounds 1 and 2, each of the first store and then of the second.
-fn lengths_ground(nand: usize, nor: usize, slots: u64, to_nand: usize, to_nor: usize) -> u8
-    ensures { result ≡ lengths_ground nand nor slots to_nand to_nor }
+fn lengths_ground(
+    nand: usize,
+    nor: usize,
+    slots: u64,
+    to_nand: usize,
+    to_nor: usize,
+) -> Result<(), Ground>
+    ensures { number_in result ≡ lengths_ground nand nor slots to_nand to_nor }
 {
-    let a = bounds::chips_ground(nand, nor, slots);
-    if a == 1 {
-        return 1;
-    }
-    let b = bounds::chips_ground(to_nand, to_nor, slots);
-    if b == 1 {
-        return 1;
-    }
-    if a != 0 {
-        return a;
-    }
-    b
+    bounds::sooner(
+        bounds::chips_ground(nand, nor, slots),
+        bounds::chips_ground(to_nand, to_nor, slots),
+    )
 }
 
 // Grounds 1, 2, 3, 13 and 10 of a store that is carried into `form`.
@@ -50,30 +42,25 @@ fn first_grounds(
     to_nand: usize,
     to_nor: usize,
     form: Form,
-) -> u8
-    ensures { result ≡ early_grounds form s live nand.now nor slots to_nand to_nor }
+) -> Result<(), Ground>
+    ensures { number_in result ≡ early_grounds form s live nand.now nor slots to_nand to_nor }
 {
-    let n = lengths_ground(nand.len(), nor, slots, to_nand, to_nor);
-    if n != 0 {
-        return n;
-    }
+    lengths_ground(nand.len(), nor, slots, to_nand, to_nor)?;
     let from = carry::other(form);
-    let m = s.ground(from, live, nand.len(), nor, slots);
-    if m != 0 {
-        return m;
-    }
+    s.ground(from, live, nand.len(), nor, slots)?;
     let c = Serials {
-        slots: slots,
+        slots,
         oldest: s.oldest,
         current: s.current,
     };
-    if retained::headers::any_closed(nand, c, form, Sought::OtherForm, 0) {
-        return 13;
+    let is_damaged = retained::headers::any_damaged(nand, c, from);
+    if retained::headers::any_of_form(nand, c, form) {
+        return Err(Ground::OtherForm);
     }
-    if retained::headers::any_closed(nand, c, from, Sought::Damage, 0) {
-        return 10;
+    if is_damaged {
+        return Err(Ground::Damage);
     }
-    0
+    Ok(())
 }
 
 // Ground 14: lift times that do not rise, or a pointer to a segment that went that form 0 would take as live.
@@ -82,7 +69,7 @@ fn cannot_go_back(s: State, nand: &[u8], slots: u64) -> bool
     ensures { result ≡ cannot_go_back (world nand.now [] s) slots }
 {
     let c = Serials {
-        slots: slots,
+        slots,
         oldest: s.oldest,
         current: s.current,
     };
@@ -95,7 +82,7 @@ fn cannot_go_back(s: State, nand: &[u8], slots: u64) -> bool
     if retained::headers::any_late(heads, s.oldest, first) {
         return true;
     }
-    retained::headers::any_closed(nand, c, Form::New, Sought::LatePointer, first)
+    retained::headers::any_late_node(nand, c, first)
 }
 
 // All grounds of going back.
@@ -106,29 +93,14 @@ fn backward_ground(
     slots: u64,
     to_nand: usize,
     to_nor: usize,
-) -> u8
-    ensures { result ≡ back_grounds s nand.now nor slots to_nand to_nor }
+) -> Result<(), Ground>
+    ensures { number_in result ≡ back_grounds s nand.now nor slots to_nand to_nor }
 {
-    let n = first_grounds(s, 0, nand, nor, slots, to_nand, to_nor, Form::Old);
-    if n != 0 {
-        return n;
-    }
+    first_grounds(s, 0, nand, nor, slots, to_nand, to_nor, Form::Old)?;
     if cannot_go_back(s, nand, slots) {
-        return 14;
-    }
-    0
-}
-
-fn old_answer(number: u8, s: State, live: u64) -> OldAnswer
-    ensures { (result.number ≡ number) × (result.state.state ≡ s) × (result.state.live ≡ live) }
-{
-    let o = OldState {
-        state: s,
-        live: live,
-    };
-    OldAnswer {
-        number: number,
-        state: o,
+        Err(Ground::NoWayBack)
+    } else {
+        Ok(())
     }
 }
 
@@ -148,7 +120,7 @@ fn carry_chips(
         × (to_nor.new ≡ nor.now) }
 {
     let c = Serials {
-        slots: slots,
+        slots,
         oldest: s.oldest,
         current: s.current,
     };
@@ -164,12 +136,12 @@ pub fn forward(
     slots: u64,
     to_nand: &mut [u8],
     to_nor: &mut [u8],
-) -> Answer
-    ensures { returned result.number to_nand.new to_nor.new result.state
+) -> Result<State, Ground>
+    ensures { returned (number_in result) to_nand.new to_nor.new (next_state formatted result)
         ≡ forward_outcome nand.now nor.now old slots to_nand.old to_nor.old }
 {
     let s = old.state;
-    let n = first_grounds(
+    first_grounds(
         s,
         old.live,
         nand,
@@ -178,20 +150,9 @@ pub fn forward(
         to_nand.len(),
         to_nor.len(),
         Form::New,
-    );
-    if n != 0 {
-        let none = State::new();
-        return Answer {
-            number: n,
-            state: none,
-        };
-    }
+    )?;
     carry_chips(s, nand, nor, slots, to_nand, to_nor, Form::New);
-    let t = carry::carried_state(s, Form::New);
-    Answer {
-        number: 0,
-        state: t,
-    }
+    Ok(carry::carried_state(s, Form::New))
 }
 
 // Form 1 back into form 0.
@@ -202,17 +163,13 @@ pub fn backward(
     slots: u64,
     to_nand: &mut [u8],
     to_nor: &mut [u8],
-) -> OldAnswer
-    ensures { old_returned result.number to_nand.new to_nor.new result.state
+) -> Result<OldState, Ground>
+    ensures { old_returned (number_in result) to_nand.new to_nor.new (next_old_state result)
         ≡ backward_outcome nand.now nor.now s slots to_nand.old to_nor.old }
 {
-    let n = backward_ground(s, nand, nor.len(), slots, to_nand.len(), to_nor.len());
-    if n != 0 {
-        let none = State::new();
-        return old_answer(n, none, 0);
-    }
+    backward_ground(s, nand, nor.len(), slots, to_nand.len(), to_nor.len())?;
     carry_chips(s, nand, nor, slots, to_nand, to_nor, Form::Old);
     let live = carry::first_time(nand, slots, s);
-    let t = carry::carried_state(s, Form::Old);
-    old_answer(0, t, live)
+    let state = carry::carried_state(s, Form::Old);
+    Ok(OldState { state, live })
 }

@@ -8,7 +8,6 @@ use Prim.Native.Nat.{ℕ, zero, suc, ◌+◌, ◌-◌, ◌*◌, ◌≤◌, ◌<�
 use native.Mathlib.Omega.{arith}
 use lib.Dec.{ltb}
 use lib.ListN.{get_or, set}
-use borrow.Author.Tests.{not-true, not-false}
 use Rattle.codec.specs.Number.{number_at}
 use Rattle.flash.specs.Chip.{page_of, pages_of}
 use Rattle.lift.specs.Limits.{load_of, code_ok}
@@ -18,9 +17,7 @@ use Rattle.bloom.specs.Pages.{each}
 use Rattle.form.specs.declared.Form.TheVariants.{New}
 use Rattle.header.specs.Header.{header_good, header_in}
 use Rattle.header.proofs.HeaderFacts.{header_facts}
-use Rattle.counts.specs.declared.Down.{Down}
 use Rattle.counts.specs.Counts.{one_less, counted_down, codes_in, without_segment}
-use Rattle.counts.specs.Inner.Down.{down_of}
 
 -- the lift at place p is next
 each_next : (f : ℕ → ℕ) (p count : ℕ) → p < count → each f p (count - p) ≡ f p ∷ each f (p + 1) (count - (p + 1))
@@ -67,28 +64,20 @@ down_over f count p counts h = let e : count - p ≡ 0 = omega arith in rw e
 
 -- ---- the segment in a slot, by its header page h
 
-pub few_lifts : (slots before : ℕ) (h : List ℕ) (good : Bool) → good ≡ header_good New h slots before → not good ≡ false
+pub few_lifts : (slots before : ℕ) (h : List ℕ) (good : Bool) → good ≡ header_good New h slots before → good ≡ true
     → (count : ℕ) → count ≡ number_at h 4 2 → count ≤ 320
 unfolding header_in
 few_lifts slots before h good e t count is =
-    let f = header_facts New h slots before (sym e ∙ not-false good t) in
+    let f = header_facts New h slots before (sym e ∙ t) in
     omega (arith, f.counts.most)
 
 module _ (nand : List ℕ) (slots slot before : ℕ) (counts h : List ℕ) (h_is : h ≡ page_of nand slot 31)
     (good : Bool) (good_is : good ≡ header_good New h slots before) where
-  pub spoilt_header : not good ≡ true → none ≡ without_segment New nand slots slot before counts
+  pub spoilt_header : good ≡ false → none ≡ without_segment New nand slots slot before counts
   unfolding without_segment header_in
-  spoilt_header t = rw (← h_is, ← good_is, not-true good t)
+  spoilt_header t = rw (← h_is, ← good_is, t)
 
-  pub sound_header : not good ≡ false → (lifts : List ℕ) → lifts ≡ pages_of nand slot 0 20 → (count : ℕ) → count ≡ number_at h 4 2
+  pub sound_header : good ≡ true → (lifts : List ℕ) → lifts ≡ pages_of nand slot 0 20 → (count : ℕ) → count ≡ number_at h 4 2
       → counted_down counts (each (λ p. code_at lifts (p * 32)) 0 count) ≡ without_segment New nand slots slot before counts
   unfolding without_segment header_in codes_in
-  sound_header t lifts e count f = rw (e, f, ← h_is, ← good_is, not-false good t)
-
--- ---- what a count down gave
-
-pub down_lost : (d : Down) → not d.good ≡ true → down_of d ≡ none
-down_lost d t = rw (not-true d.good t)
-
-pub down_kept : (d : Down) → not d.good ≡ false → down_of d ≡ some d.counts
-down_kept d t = rw (not-false d.good t)
+  sound_header t lifts e count f = rw (e, f, ← h_is, ← good_is, t)

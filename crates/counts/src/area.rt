@@ -4,7 +4,6 @@ ghost use Rattle.plate.specs.Total.{total};
 ghost use Rattle.counts.specs.Counts.{counts_most, counts_broken, one_more};
 ghost use Rattle.counts.specs.CountsBytes.{counts_length, counts_bytes, counts_in};
 
-use crate::SUM_MOST;
 use plate::PLATES;
 
 const COUNT_BYTES: usize = 4;
@@ -16,17 +15,10 @@ pub fn are_broken(b: &[u8]) -> bool
     requires { length b.now ≡ counts_length }
     ensures { result ≡ counts_broken (counts_in b.now) }
 {
-    let mut sum: u64 = 0;
-    let mut i: usize = 0;
-    while i < PLATES {
-        let n = codec::get_u32(b, COUNT_BYTES * i);
-        sum = sum + n as u64;
-        i += 1;
-    }
-    (SUM_MOST as u64) < sum
+    crate::are_broken(get_counts(b))
 }
 
-// A lift more, by its stored load.
+// A lift more, by its stored load: where the count stands, since all 22 would be copied there and back for each lift.
 pub fn one_more(b: &mut [u8], code: u32)
     requires { (length b.old ≡ counts_length) × (total (counts_in b.old) ≤ counts_most) }
     ensures { b.new ≡ counts_bytes (one_more (counts_in b.old) code) }
@@ -41,11 +33,8 @@ pub fn get_counts(b: &[u8]) -> [u32; PLATES]
     ensures { result ≡ counts_in b.now }
 {
     let mut counts = [0u32; PLATES];
-    let mut i: usize = 0;
-    while i < PLATES {
-        let n = codec::get_u32(b, COUNT_BYTES * i);
-        counts[i] = n;
-        i += 1;
+    for (i, n) in counts.iter_mut().enumerate() {
+        *n = codec::get_u32(b, COUNT_BYTES * i);
     }
     counts
 }
@@ -54,10 +43,7 @@ pub fn put_counts(b: &mut [u8], counts: [u32; PLATES])
     requires { length b.old ≡ counts_length }
     ensures { b.new ≡ counts_bytes counts }
 {
-    let mut i: usize = 0;
-    while i < PLATES {
-        let n = counts[i];
-        codec::put_u32(b, COUNT_BYTES * i, n);
-        i += 1;
+    for (i, n) in counts.iter().enumerate() {
+        codec::put_u32(b, COUNT_BYTES * i, *n);
     }
 }

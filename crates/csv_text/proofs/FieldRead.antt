@@ -12,7 +12,7 @@ use lib.Seq.{drop-drop, drop-append_seam}
 use Rattle.codec.proofs.Truth.{and_parts, and_left, and_right, and_both, and_false}
 use Rattle.csv_text.specs.declared.Run.{Run}
 use Rattle.csv_text.specs.Grammar.{all_digits, value_from}
-use Rattle.csv_text.specs.Inner.Descent.{is_digit, leading, RunRead, bit, once, written, Stops, Front, FieldRead}
+use Rattle.csv_text.specs.Inner.Descent.{is_digit, leading, RunRead, bit, once, written, Stops, Front, FieldRead, NoField}
 use Rattle.csv_text.proofs.Digits.{leading_all, leading_split, leading_digits, leading_few, value_small}
 use Rattle.csv_text.proofs.Places.{first_from, there, behind, there_inside}
 
@@ -160,13 +160,26 @@ module _ (signed : Bool) (text : List ℕ) (at : ℕ) (h : at ≤ length text) {
                 (im, (er.value ∙ ap (value_from 0) il ∙ sym k.says, w4)),
               )
 
-          pub field_read : FieldRead signed text at
-              (record { good = ltb first r.end && (not q || z); minus = signed && b; value = r.value; end = end })
-          field_read = record {
+          read_so : (ltb first r.end && (not q || z)) ≡ true
+              → FieldRead signed text at (record { minus = signed && b; value = r.value; end = end })
+          read_so g = record {
             inside = rw ee close_inside;
             small = rw er.value
                 (value_small (leading 15 (drop first text)) (leading_digits 15 (drop first text)) (leading_few 15 (drop first text)).0);
-            further = λ g. (let l = ltb-true first r.end (and_parts (ltb first r.end) (not q || z) g).0 in omega arith);
-            good = found;
-            only = only;
+            further = (let l = ltb-true first r.end (and_parts (ltb first r.end) (not q || z) g).0 in omega arith);
+            good = found g;
+            only = λ minus value bytes f s. (only minus value bytes f s).1;
           }
+
+          none_so : (ltb first r.end && (not q || z)) ≡ false → NoField signed text at
+          none_so g = record { never = λ minus value bytes f s. false≢true (sym g ∙ (only minus value bytes f s).0) }
+
+        -- as the code has it: the quote that closes it stands there, if one opened it
+        pub field_read : {end : ℕ} → end ≡ r.end + bit q → (ltb first r.end && (not q || z)) ≡ true
+            → FieldRead signed text at (record { minus = signed && b; value = r.value; end = end })
+        field_read e g =
+            let c = closes q z (and_parts (ltb first r.end) (not q || z) g).1 in
+            read_so (e ∙ ap (λ (t : Bool). r.end + bit t) (sym c)) g
+
+        pub no_field : (ltb first r.end && (not q || z)) ≡ false → NoField signed text at
+        no_field = none_so refl

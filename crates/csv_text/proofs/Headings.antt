@@ -1,44 +1,23 @@
--- The header at a text's start, compared byte by byte, and the first line that it is. Assumes nothing.
+-- The header at a text's start, and the first line that it is. Assumes nothing.
 use mathlib.Core.Path.{◌≡◌, refl, sym, ap, ◌∙◌}
-use mathlib.Core.Bool.{Bool, true, false, not, false≢true}
+use mathlib.Core.Bool.{Bool, true, false, false≢true}
 use mathlib.Core.List.{List, [], ◌∷◌, ◌++◌}
-use Prim.Native.Nat.{ℕ, ◌+◌, ◌≤◌, ◌<◌}
+use Prim.Native.Nat.{ℕ}
 use native.Mathlib.Omega.{arith}
-use borrow.Author.Tests.{not-true, not-false, eqb-true, eq-eqb}
+use borrow.Author.Tests.{eqb-true, eq-eqb}
 use lib.Dec.{eqb}
-use lib.ListN.{length, get_or, take, drop, take-append-drop, get_or-append}
-use lib.Seq.{length-take-le, get_or-take, ext_get_or}
+use lib.ListN.{drop}
 use Rattle.lift_text.specs.Text.{heading}
 use Rattle.codec.proofs.Truth.{and_parts}
-use Rattle.csv_text.specs.declared.Heading.{Heading}
+use Rattle.std.specs.Prelude.{Option, Some, None, MatchOption}
+use Rattle.std.specs.List.{starts_with}
+use Rattle.std.proofs.lemmas.Bool.Decides.{Decides-eqb}
+use Rattle.std.proofs.lemmas.Slice.Eq.{starts_is}
 use Rattle.csv_text.specs.Grammar.{lines_of, same, has_heading}
 use Rattle.csv_text.specs.Inner.Reading.{HeadingRead}
-use Rattle.csv_text.specs.Inner.Descent.{Begins, ends, behind_end, EndPassed}
+use Rattle.csv_text.specs.Inner.Descent.{ends, behind_end, EndPassed}
 use Rattle.csv_text.proofs.Cutting.{Free, line_cut, first_line_lem}
 use Rattle.codec.proofs.Lists.{AllOf}
-
--- ---- byte by byte
-
--- the first i bytes are the header's
-abbrev pub Agree : List ℕ → ℕ → Type 0
-Agree text i = (k : ℕ) → k < i → get_or text k 0 ≡ get_or heading k 0
-
-module _ (text : List ℕ) where
-  not_there : ((bytes : List ℕ) → text ≡ heading ++ bytes → ⊥) → Begins text false
-  not_there f = record { yes = λ e. absurd (false≢true e); no = λ e. f }
-
-  pub too_short : length text < 16 → Begins text false
-  too_short h = not_there (λ bytes e. omega (arith, ap length e))
-
-  pub differs : (i : ℕ) → i < 16 → (get_or text i 0 ≡ get_or heading i 0 → ⊥) → Begins text false
-  differs i h n = not_there (λ bytes e. n (ap (λ (l : List ℕ). get_or l i 0) e ∙ get_or-append heading bytes 0 i h))
-
-  pub begins_so : (i : ℕ) → 16 ≤ i → 16 ≤ length text → Agree text i → Begins text true
-  begins_so i h k a =
-      let n : length (take 16 text) ≡ 16 = length-take-le 16 text k in
-      let e : take 16 text ≡ heading = ext_get_or 0 (take 16 text) heading n
-      (λ j l. let m : j < 16 = omega arith in get_or-take 16 text j 0 m ∙ a j (omega arith)) in
-      record { yes = λ t. sym (take-append-drop 16 text) ∙ ap (λ (l : List ℕ). l ++ drop 16 text) e; no = λ t. absurd (false≢true (sym t)) }
 
 -- ---- the first line
 
@@ -72,38 +51,37 @@ heading_there (b ∷ text) e =
     let s : same f.line heading ≡ true = rw f.cut at e in
     (f.behind, (f.whole ∙ ap (λ (l : List ℕ). l ++ f.behind) (same_bytes f.line heading s), f.end))
 
-no_line : (text : List ℕ) (h : Heading) → h.good ≡ false → (has_heading (lines_of text) ≡ true → ⊥) → HeadingRead text h
-no_line text h e f = record {
-  is = e ∙ go (has_heading (lines_of text)) refl;
-  on = λ g. absurd (false≢true (sym e ∙ g));
-  inside = λ g. absurd (false≢true (sym e ∙ g));
-  past = λ g. absurd (false≢true (sym e ∙ g));
-}
-  where
-    go : (t : Bool) → has_heading (lines_of text) ≡ t → false ≡ t
-    go true q = absurd (f q)
-    go false q = refl
+-- the code's test of the header's bytes
+module _ (text : List ℕ) (t : Bool) (e : t ≡ starts_with eqb text heading) where
+  pub no_bytes : t ≡ false → has_heading (lines_of text) ≡ false
+  no_bytes f = go (has_heading (lines_of text)) refl
+    where
+      go : (h : Bool) → has_heading (lines_of text) ≡ h → h ≡ false
+      go true q = let p = heading_there text q in absurd (false≢true (sym f ∙ (starts_is Decides-eqb text heading t e).1 p.0 p.1.0))
+      go false q = refl
 
-module _ (text : List ℕ) {a : Bool} (b : Begins text a) where
-  pub no_bytes : (h : Heading) → h.good ≡ false → not a ≡ true → HeadingRead text h
-  no_bytes h e n = no_line text h e (λ t. let p = heading_there text t in b.no (not-true a n) p.0 p.1.0)
-
-  module _ (n : not a ≡ false) where
+  module _ (y : t ≡ true) where
     starts : text ≡ heading ++ drop 16 text
-    starts = b.yes (not-false a n)
+    starts = (starts_is Decides-eqb text heading t e).0 y
 
-    pub sixteen : 16 ≤ length text
-    sixteen = omega (arith, ap length starts)
+    no_end : ends (drop 16 text) ≡ false → has_heading (lines_of text) ≡ false
+    no_end k = go (has_heading (lines_of text)) refl
+      where
+        go : (h : Bool) → has_heading (lines_of text) ≡ h → h ≡ false
+        go true q = let p = heading_there text q in absurd (false≢true (sym k ∙ ap ends (ap (drop 16) p.1.0) ∙ p.1.1))
+        go false q = refl
 
-    pub no_end : (h : Heading) → h.good ≡ false → ends (drop 16 text) ≡ false → HeadingRead text h
-    no_end h e k = no_line text h e (λ t. let p = heading_there text t in false≢true (sym k ∙ ap ends (ap (drop 16) p.1.0) ∙ p.1.1))
-
-    pub heading_read : (next : ℕ) → ends (drop 16 text) ≡ true → EndPassed text 16 next → HeadingRead text (record { good = true; next = next })
-    heading_read next k p =
-        let cut : lines_of text ≡ heading ∷ lines_of (behind_end (drop 16 text)) = ap lines_of starts ∙ heading_cut (drop 16 text) k in
+    heading_read : (next : ℕ) → EndPassed text 16 next → HeadingRead text next
+    heading_read next p =
+        let cut : lines_of text ≡ heading ∷ lines_of (behind_end (drop 16 text)) = ap lines_of starts ∙ heading_cut (drop 16 text) p.there in
         record {
-          is = rw cut (sym (same_self heading));
-          on = λ g. rw cut (ap lines_of (sym p.behind));
-          inside = λ g. p.inside;
-          past = λ g. omega (arith, p.from);
+          is = rw cut (same_self heading);
+          on = rw cut (ap lines_of (sym p.behind));
+          inside = p.inside;
+          past = omega (arith, p.from);
         }
+
+    pub heading_after : (o : Option ℕ) → MatchOption o (ends (drop 16 text) ≡ false) (EndPassed text 16)
+        → MatchOption o (has_heading (lines_of text) ≡ false) (HeadingRead text)
+    heading_after (Some next) p = heading_read next p
+    heading_after None k = no_end k

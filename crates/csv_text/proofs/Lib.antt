@@ -1,7 +1,6 @@
 pub mod Digits
 pub mod Places
 pub mod Headings
-pub mod Loads
 pub mod FieldRead
 pub mod Cutting
 pub mod Forms

@@ -1,8 +1,8 @@
 -- A place of a text and the list from there on: a byte that stands at a place, the bytes behind it, a line's end. Assumes nothing.
 use mathlib.Core.Path.{◌≡◌, refl, sym, ap, ◌∙◌}
 use mathlib.Core.Bool.{Bool, true, false, ◌&&◌, false≢true}
-use mathlib.Core.List.{List, ◌∷◌, ◌++◌}
-use Prim.Native.Nat.{ℕ, suc, ◌+◌, ◌-◌, ◌≤◌, ◌<◌}
+use mathlib.Core.List.{List, [], ◌∷◌, ◌++◌}
+use Prim.Native.Nat.{ℕ, suc, ◌+◌, ◌≤◌, ◌<◌}
 use native.Mathlib.Numerals.{add-one}
 use native.Mathlib.Decide.{dec_lt}
 use native.Mathlib.Omega.{arith}
@@ -53,24 +53,30 @@ there_inside text at b false z h k = omega arith
 
 -- ---- a line's end
 
-pub ends_inside : (text : List ℕ) (at : ℕ) → at < length text
+ends_inside : (text : List ℕ) (at : ℕ) → at < length text
     → (eqb (get_or text at 0) 13 && eqb (get_or text (at + 1) 0) 10) ≡ ends (drop at text)
 unfolding ends
 ends_inside text at h = rw (drop-cons text at 0 h, add-one at, first_from text (suc at))
 
-pub ends_outside : (text : List ℕ) (at : ℕ) → length text ≤ at → true ≡ ends (drop at text)
-unfolding ends
-ends_outside text at h = rw (drop_of_length-le text {i = at} h)
-
-pub end_inside : (text : List ℕ) (at : ℕ) → at < length text → ends (drop at text) ≡ true → EndPassed text at (at + 2)
+pub end_inside : (text : List ℕ) (at : ℕ) → at < length text
+    → (eqb (get_or text at 0) 13 && eqb (get_or text (at + 1) 0) 10) ≡ true
+    → EndPassed text at (at + 2)
 unfolding behind_end
 end_inside text at h e =
-    let t = and_parts (eqb (get_or text at 0) 13) (eqb (get_or text (at + 1) 0) 10) (ends_inside text at h ∙ e) in
+    let t = and_parts (eqb (get_or text at 0) 13) (eqb (get_or text (at + 1) 0) 10) e in
     let k = within text (at + 1) 10 (omega arith) t.1 in
     let d : drop 1 (drop (suc at) text) ≡ drop (at + 2) text =
     let n : suc at + 1 ≡ at + 2 = omega arith in drop-drop 1 (suc at) text ∙ ap (λ (j : ℕ). drop j text) n in
-    record { from = omega arith; inside = omega arith; behind = rw (drop-cons text at 0 h, d) }
+    record { there = sym (ends_inside text at h) ∙ e; from = omega arith; inside = omega arith; behind = rw (drop-cons text at 0 h, d) }
 
-pub end_outside : (text : List ℕ) (at : ℕ) → at ≤ length text → length text ≤ at → EndPassed text at at
-unfolding behind_end
-end_outside text at h k = record { from = omega arith; inside = h; behind = rw (drop_of_length-le text {i = at} k) }
+pub end_outside : (text : List ℕ) (at : ℕ) → at ≡ length text → EndPassed text at at
+unfolding ends behind_end
+end_outside text at e =
+    let h : length text ≤ at = omega arith in
+    let n : drop at text ≡ [] = drop_of_length-le text {i = at} h in
+    record { there = rw n; from = omega arith; inside = omega arith; behind = rw n }
+
+pub no_end : (text : List ℕ) (at : ℕ) → at < length text
+    → (eqb (get_or text at 0) 13 && eqb (get_or text (at + 1) 0) 10) ≡ false
+    → ends (drop at text) ≡ false
+no_end text at h e = sym (ends_inside text at h) ∙ e

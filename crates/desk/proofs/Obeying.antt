@@ -1,5 +1,6 @@
 -- What the call that a line names leaves is what the line does: one law for each form. Assumes nothing.
 use mathlib.Core.Path.{◌≡◌, ap}
+use mathlib.Core.Logic.{◌⊎◌, inl, inr}
 use mathlib.Core.List.{List}
 use Prim.Native.Nat.{ℕ}
 use lib.IntN.{ℤ}
@@ -26,18 +27,12 @@ module _ (w : World) {l : Line} where
     unfolding obeyed
     drop_obeyed e h = rw e (ap (λ (o : Outcome). o.world) h)
 
-  pub search_obeyed : {t1 t2 : ℕ} {k1 k2 : ℤ} → l ≡ Search t1 t2 k1 k2 → w ≡ obeyed w l
+  -- the lines that only ask
+  pub asked_obeyed : ((t1 : ℕ) × (t2 : ℕ) × (k1 : ℤ) × (k2 : ℤ) × l ≡ Search t1 t2 k1 k2)
+      ⊎ (((t1 : ℕ) × (t2 : ℕ) × l ≡ Tally t1 t2) ⊎ (((t1 : ℕ) × (t2 : ℕ) × l ≡ Page t1 t2) ⊎ (l ≡ Other)))
+      → w ≡ obeyed w l
   unfolding obeyed
-  search_obeyed e = rw e
-
-  pub tally_obeyed : {t1 t2 : ℕ} → l ≡ Tally t1 t2 → w ≡ obeyed w l
-  unfolding obeyed
-  tally_obeyed e = rw e
-
-  pub page_obeyed : {t1 t2 : ℕ} → l ≡ Page t1 t2 → w ≡ obeyed w l
-  unfolding obeyed
-  page_obeyed e = rw e
-
-  pub other_obeyed : l ≡ Other → w ≡ obeyed w l
-  unfolding obeyed
-  other_obeyed e = rw e
+  asked_obeyed (inl (t1, t2, k1, k2, e)) = rw e
+  asked_obeyed (inr (inl (t1, t2, e))) = rw e
+  asked_obeyed (inr (inr (inl (t1, t2, e)))) = rw e
+  asked_obeyed (inr (inr (inr e))) = rw e

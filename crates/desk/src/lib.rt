@@ -5,14 +5,16 @@
 ghost use Rattle.std.specs.Prelude.{◌≡◌, ◌*◌, ◌≤◌, length, take};
 ghost use Rattle.lift.specs.Record.{record_width};
 ghost use Rattle.store.specs.World.{world};
+ghost use Rattle.store.specs.Calls.{next_state};
 ghost use Rattle.desk.specs.Obeyed.{obeyed, kept};
 
+use grounds::Ground;
 use lift::NOTE_BYTES;
 use lines::Line;
 use page_line::SLOTS;
+use plate::PLATES;
 use search::Found;
-use store::{Answer, State};
-use tally::Tally;
+use store::State;
 
 pub const NAND_BYTES: usize = 2 * flash::SLOT_BYTES;
 // "320 result rows"
@@ -31,35 +33,19 @@ pub struct Reader {
 
 // "It starts from a format."
 pub fn formatted(nand: &mut [u8], nor: &mut [u8]) -> State {
-    let a = State::format(nand, nor, SLOTS);
-    a.state
+    State::format(nand, nor, SLOTS).unwrap_or(State::new())
 }
 
 // The call of a line that changes chips or state: "A appends (notes 0), C closes, G drops". The others change neither.
-pub fn carried_out(nand: &mut [u8], nor: &mut [u8], s: State, l: Line) -> Answer
-    ensures { world nand.new nor.new result.state
+pub fn carried_out(nand: &mut [u8], nor: &mut [u8], s: State, l: Line) -> Result<State, Ground>
+    ensures { world nand.new nor.new (next_state s result)
         ≡ obeyed (world nand.old nor.old s) l }
 {
     match l {
         Line::Append(t, k) => s.append(nand, nor, SLOTS, t, k, [0u8; NOTE_BYTES]),
         Line::Close => s.close(nand, nor, SLOTS),
         Line::Drop => s.drop(nand, nor, SLOTS),
-        Line::Search(_, _, _, _) => Answer {
-            number: 0,
-            state: s,
-        },
-        Line::Tally(_, _) => Answer {
-            number: 0,
-            state: s,
-        },
-        Line::Page(_, _) => Answer {
-            number: 0,
-            state: s,
-        },
-        Line::Other => Answer {
-            number: 0,
-            state: s,
-        },
+        Line::Search(..) | Line::Tally(..) | Line::Page(..) | Line::Other => Ok(s),
     }
 }
 
@@ -73,7 +59,7 @@ pub fn search(
     k1: i32,
     k2: i32,
     area: &mut [u8],
-) -> Found {
+) -> Result<Found, Ground> {
     questions::search(s, nand, nor, SLOTS, t1, t2, k1, k2, area)
 }
 
@@ -82,14 +68,11 @@ pub fn rows(area: &[u8], count: u64) -> usize
     ensures { result * record_width ≤ length area.now }
 {
     let whole = area.len() / lift::RECORD_BYTES;
-    if (count as usize) < whole {
-        return count as usize;
-    }
-    whole
+    whole.min(count as usize)
 }
 
 // "T tallies"
-pub fn tally(nand: &[u8], nor: &[u8], s: State, t1: u64, t2: u64) -> Tally {
+pub fn tally(nand: &[u8], nor: &[u8], s: State, t1: u64, t2: u64) -> Result<[u64; PLATES], Ground> {
     questions::tally(s, nand, nor, SLOTS, t1, t2)
 }
 
@@ -112,8 +95,7 @@ pub fn pushed(mut s: Reader, b: u8) -> Reader
     let n = s.len;
     if n < LINE_BYTES {
         s.line[n] = b;
-        s.len = n + 1;
-        return s;
+        s.len += 1;
     }
     s
 }

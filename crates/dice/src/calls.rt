@@ -2,55 +2,75 @@
 // kind, often in the second), and now and then a call that is to be refused.
 ghost use Rattle.std.specs.Prelude.{◌<◌};
 
-use plain_list::{PlainLog, Query};
+use crate::{List, Loads};
+use plain_list::{Lift, PlainLog, Query};
 
-pub const APPEND: u8 = 0;
+// How much room a search is lent for its rows.
+#[derive(Clone, Copy, Debug, PartialEq, Eq)]
+pub enum Area {
+    Ample,
+    Exact,
+    RowShort,
+    ByteShort,
+    // 31 bytes more than the rows.
+    Loose,
+}
 
-pub const CLOSE: u8 = 1;
+// Loads are stored ones.
+#[derive(Clone, Copy, Debug, PartialEq, Eq)]
+pub enum Call {
+    Append { time: u64, code: u64 },
+    Close,
+    Drop,
+    Search { query: Query, area: Area },
+    Tally { query: Query },
+}
 
-pub const DROP: u8 = 2;
-
-pub const SEARCH: u8 = 3;
-
-pub const TALLY: u8 = 4;
-
-// How the result area is chosen: ample, exact, one row short, one byte short, exact and 31 bytes more.
-pub const AREAS: u64 = 5;
-
-#[derive(Clone, Copy)]
-pub struct Call {
-    pub what: u8,
+#[derive(Clone, Copy, Debug, PartialEq, Eq)]
+pub struct Drawn {
     pub slots: u64,
-    // An append has its time in t1 and its stored load in k1.
-    pub q: Query,
-    pub area: u64,
+    pub call: Call,
 }
 
 // Past the limits of stored loads.
 const CODE_PAST: u64 = 150002;
 
-const LARGEST: u64 = 18446744073709551615;
+// Every load, at all times.
+const EVERYTHING: Query = Query {
+    t1: 0,
+    t2: plain_list::TIME_LIMIT,
+    k1: plain_list::CODE_MIN,
+    k2: plain_list::CODE_MAX,
+};
 
-fn plus(a: u64, b: u64) -> u64 {
-    if a <= LARGEST - b {
-        return a + b;
+impl Call {
+    // What it asks for; an append has its time in t1 and its load in k1.
+    pub fn query(self) -> Query {
+        match self {
+            Call::Append { time, code } => Query {
+                t1: time,
+                k1: code,
+                ..EVERYTHING
+            },
+            Call::Close | Call::Drop => EVERYTHING,
+            Call::Search { query, .. } | Call::Tally { query } => query,
+        }
     }
-    a
 }
 
-// Every load, at all times.
-fn everything() -> Query {
-    Query {
-        t1: 0,
-        t2: plain_list::TIME_LIMIT,
-        k1: plain_list::CODE_MIN,
-        k2: plain_list::CODE_MAX,
+fn some_area(x: u64) -> Area {
+    match x % 5 {
+        0 => Area::Ample,
+        1 => Area::Exact,
+        2 => Area::RowShort,
+        3 => Area::ByteShort,
+        _ => Area::Loose,
     }
 }
 
 // Times between two appends: none, as between two arms, long ones and short ones. Of 1,600 lifts the last 400 are at one time, past
 // the ends of pages, sections and segments.
-fn gap(log: PlainLog, x: u64) -> u64 {
+fn gap(log: &PlainLog, x: u64) -> u64 {
     if log.next_number() / 400 % 4 == 3 {
         return 0;
     }
@@ -61,196 +81,160 @@ fn gap(log: PlainLog, x: u64) -> u64 {
     }
 }
 
-// The place of a lift in the list.
-fn some_place(log: PlainLog, x: u64) -> u32 {
-    let lifts = log.lifts;
-    if lifts == 0 {
-        return 0;
-    }
-    ((x % 4294967296) as u32) % lifts
+// A lift of the list; the first of the sheet where it has none.
+fn some_lift(sheet: &[Lift], log: &PlainLog, x: u64) -> Lift {
+    let place = (x % 4294967296) as usize;
+    plain_list::lift_at(sheet, place.checked_rem(log.lifts).unwrap_or(0))
 }
 
 // The stored load of an append.
-fn some_code(sheet: &[u64], log: PlainLog, kind: u8, list: u64, time: u64, x: u64) -> u64 {
-    if (kind == crate::SPLITTING) & (x / 8 % 16 != 0) {
-        return log.splitting_code(sheet);
+fn some_code(log: &PlainLog, list: List, time: u64, x: u64) -> u64 {
+    if list.loads == Loads::Splitting && x / 8 % 16 != 0 {
+        u64::from(log.tree.splitting_code())
+    } else {
+        list.code(time, x)
     }
-    crate::code(kind, list, time, x)
-}
-
-fn just_before(time: u64) -> u64 {
-    if time == 0 {
-        return 0;
-    }
-    time - 1
 }
 
 // An append at or after the last time; now and then one that is to be refused.
-fn append(sheet: &[u64], log: PlainLog, kind: u8, list: u64, x: u64) -> Call {
+fn append(log: &PlainLog, list: List, x: u64) -> Drawn {
     let y = crate::next(x);
-    let z = crate::next(y);
-    let time = plus(log.next, gap(log, y));
-    let k = some_code(sheet, log, kind, list, time, z);
-    let mut q = everything();
-    q.t1 = time;
-    q.k1 = k;
-    let mut slots = log.slots;
-    match x / 128 % 200 {
-        0 => q.t1 = log.next / 2,
-        1 => q.t1 = plain_list::TIME_LIMIT + 1,
-        2 => q.k1 = 0,
-        3 => q.k1 = CODE_PAST,
-        4 => slots = 5,
-        5 => q.k1 = LARGEST,
-        6 => q.t1 = just_before(log.next),
-        _ => {}
-    }
-    Call {
-        what: APPEND,
+    let time = log.next.saturating_add(gap(log, y));
+    let code = some_code(log, list, time, crate::next(y));
+    let slots = log.slots;
+    let (slots, time, code) = match x / 128 % 200 {
+        0 => (slots, log.next / 2, code),
+        1 => (slots, plain_list::TIME_LIMIT + 1, code),
+        2 => (slots, time, 0),
+        3 => (slots, time, CODE_PAST),
+        4 => (5, time, code),
+        5 => (slots, time, u64::MAX),
+        6 => (slots, log.next.saturating_sub(1), code),
+        _ => (slots, time, code),
+    };
+    Drawn {
         slots,
-        q,
-        area: 0,
+        call: Call::Append { time, code },
     }
 }
 
 // A window of times: whole, from a lift on, up to a lift, one lift's time, one time at random.
-fn window(sheet: &[u64], log: PlainLog, x: u64) -> Query {
+fn window(sheet: &[Lift], log: &PlainLog, x: u64) -> Query {
     let y = crate::next(x);
-    let t = log.time_at(sheet, some_place(log, y));
-    let mut q = everything();
-    match x / 256 % 8 {
-        0 => q.t2 = t,
-        1 => q.t1 = t,
-        2 | 3 => {
-            q.t1 = t;
-            q.t2 = t;
-        }
-        4 => {
-            q.t1 = y % 1000000;
-            q.t2 = y % 1000000;
-        }
-        5 | 6 => {
-            q.t1 = t;
-            q.t2 = plus(t, y % 200000);
-        }
-        _ => {}
+    let time = some_lift(sheet, log, y).time;
+    let (t1, t2) = match x / 256 % 8 {
+        0 => (0, time),
+        1 => (time, plain_list::TIME_LIMIT),
+        2 | 3 => (time, time),
+        4 => (y % 1000000, y % 1000000),
+        5 | 6 => (time, time.saturating_add(y % 200000)),
+        _ => (0, plain_list::TIME_LIMIT),
+    };
+    Query {
+        t1,
+        t2,
+        ..EVERYTHING
     }
-    q
 }
 
 // Loads of a search: all, those of one lift, one at random, a band.
-fn with_loads(sheet: &[u64], log: PlainLog, q0: Query, x: u64) -> Query {
+fn with_loads(sheet: &[Lift], log: &PlainLog, window: Query, x: u64) -> Query {
     let y = crate::next(x);
-    let k = log.code_at(sheet, some_place(log, y));
-    let mut q = q0;
-    match x / 512 % 6 {
-        0 | 1 => {
-            q.k1 = k;
-            q.k2 = k;
-        }
-        2 => {
-            q.k1 = 1 + y % plain_list::CODE_MAX;
-            q.k2 = q.k1;
-        }
-        3 => {
-            q.k1 = k;
-            q.k2 = larger_of(k, 1 + y % plain_list::CODE_MAX);
-        }
-        4 => q.k2 = k,
-        _ => {}
-    }
-    q
-}
-
-fn larger_of(a: u64, b: u64) -> u64 {
-    if a < b {
-        return b;
-    }
-    a
+    let code = u64::from(some_lift(sheet, log, y).code);
+    let other = 1 + y % plain_list::CODE_MAX;
+    let (k1, k2) = match x / 512 % 6 {
+        0 | 1 => (code, code),
+        2 => (other, other),
+        3 => (code, code.max(other)),
+        4 => (plain_list::CODE_MIN, code),
+        _ => (plain_list::CODE_MIN, plain_list::CODE_MAX),
+    };
+    Query { k1, k2, ..window }
 }
 
 // Now and then a query is to be refused: a time or a load past its limit, a range that runs backwards.
-fn spoilt(q0: Query, x: u64) -> Query {
-    let mut q = q0;
+fn spoilt(q: Query, x: u64) -> Query {
     match x / 1024 % 60 {
-        0 => q.t2 = plain_list::TIME_LIMIT + 1,
-        1 => q.t1 = LARGEST,
-        2 => q.k1 = 0,
-        3 => q.k2 = CODE_PAST,
-        4 => {
-            q.t1 = 5;
-            q.t2 = 4;
-        }
-        5 => {
-            q.k1 = 50001;
-            q.k2 = 50000;
-        }
-        _ => {}
+        0 => Query {
+            t2: plain_list::TIME_LIMIT + 1,
+            ..q
+        },
+        1 => Query { t1: u64::MAX, ..q },
+        2 => Query { k1: 0, ..q },
+        3 => Query { k2: CODE_PAST, ..q },
+        4 => Query { t1: 5, t2: 4, ..q },
+        5 => Query {
+            k1: 50001,
+            k2: 50000,
+            ..q
+        },
+        _ => q,
     }
-    q
 }
 
 // Another S now and then: 0, 1, one more, and far more than a chip has.
-fn some_slots(log: PlainLog, x: u64) -> u64 {
+fn some_slots(log: &PlainLog, x: u64) -> u64 {
     match x / 2048 % 200 {
         0 => 0,
         1 => 1,
-        2 => plus(log.slots, 1),
+        2 => log.slots.saturating_add(1),
         3 => 5000,
         _ => log.slots,
     }
 }
 
-fn query(sheet: &[u64], log: PlainLog, what: u8, x: u64) -> Call {
+fn search(sheet: &[Lift], log: &PlainLog, x: u64) -> Drawn {
     let y = crate::next(x);
     let z = crate::next(y);
-    let w = window(sheet, log, x);
-    let mut q = w;
-    if what == SEARCH {
-        q = with_loads(sheet, log, w, y);
-    }
-    Call {
-        what,
+    let query = with_loads(sheet, log, window(sheet, log, x), y);
+    let call = Call::Search {
+        query: spoilt(query, z),
+        area: some_area(z / 4096),
+    };
+    Drawn {
         slots: some_slots(log, y),
-        q: spoilt(q, z),
-        area: z / 4096 % AREAS,
+        call,
     }
 }
 
-fn change(log: PlainLog, what: u8, x: u64) -> Call {
-    Call {
-        what,
-        slots: some_slots(log, x),
-        q: everything(),
-        area: 0,
+fn tally(sheet: &[Lift], log: &PlainLog, x: u64) -> Drawn {
+    let y = crate::next(x);
+    let z = crate::next(y);
+    let call = Call::Tally {
+        query: spoilt(window(sheet, log, x), z),
+    };
+    Drawn {
+        slots: some_slots(log, y),
+        call,
     }
 }
 
 // One close in so many calls.
-fn calls_per_close(list: u64) -> u64
+fn calls_per_close(list: List) -> u64
     ensures { 0 < result }
 {
-    if list == 0 {
-        return 2000;
-    }
-    40
+    if list.second { 40 } else { 2000 }
 }
 
-pub fn pick(sheet: &[u64], log: PlainLog, kind: u8, list: u64, x: u64) -> Call {
+pub fn pick(sheet: &[Lift], log: &PlainLog, list: List, x: u64) -> Drawn {
     let often = calls_per_close(list);
     let y = crate::next(x);
+    let slots = some_slots(log, x);
     if y / 16 % often == 0 {
-        return change(log, CLOSE, x);
+        return Drawn {
+            slots,
+            call: Call::Close,
+        };
     }
     if y / 32 % often == 1 {
-        return change(log, DROP, x);
+        return Drawn {
+            slots,
+            call: Call::Drop,
+        };
     }
-    let share = x / 64 % 100;
-    if share < 24 {
-        return query(sheet, log, SEARCH, y);
+    match x / 64 % 100 {
+        0..24 => search(sheet, log, y),
+        24..28 => tally(sheet, log, y),
+        _ => append(log, list, y),
     }
-    if share < 28 {
-        return query(sheet, log, TALLY, y);
-    }
-    append(sheet, log, kind, list, y)
 }

@@ -1,3 +1,2 @@
 pub mod AtHand
-pub mod PassedOver
 pub mod Turns

@@ -1,15 +1,15 @@
 -- The lines of lifts counted in bytes: the lifts of a set one after the other, then segment by segment. Assumes nothing.
+use Rattle.std.specs.Prelude.{Some, None}
+use Rattle.std.specs.Prelude.{Option as Maybe}
 use mathlib.Core.Path.{◌≡◌, refl, sym, ap, ◌∙◌}
-use mathlib.Core.Bool.{Bool, true, false}
-use mathlib.Core.Option.{Option}
-use mathlib.Core.List.{List, [], ◌++◌, map, map-append}
-use Prim.Native.Nat.{ℕ, ◌+◌, ◌-◌, ◌*◌, ◌≤◌}
+use mathlib.Core.Bool.{true, false}
+use mathlib.Core.Option.{Option, none}
+use mathlib.Core.List.{List, [], ◌∷◌, ◌++◌, map, map-append}
+use Prim.Native.Nat.{ℕ, ◌+◌, ◌-◌, ◌*◌, ◌≤◌, ◌<◌}
 use native.Mathlib.Omega.{arith}
 use lib.ListN.{length, length-append}
 use Rattle.bitset.specs.declared.Bits.{Bits}
-use Rattle.bitset.specs.declared.Next.{Next}
 use Rattle.bitset.specs.Inner.Words.{members, Below}
-use Rattle.bitset.specs.Inner.Emptying.{next_of}
 use Rattle.lift.specs.Limits.{load_of}
 use Rattle.lift.specs.Rows.{time_in, code_in, member_in, record_in}
 use Rattle.lift.proofs.Rows.{time_of_record, code_of_record, member_of_record}
@@ -17,7 +17,7 @@ use Rattle.skiplist.specs.Skip.{Live}
 use Rattle.sweep.specs.declared.Records.{Records}
 use Rattle.sweep.specs.Inner.Swept.{Recorded}
 use Rattle.visit.specs.declared.Query.{Query}
-use Rattle.visit.proofs.Emptying.{recorded_at, emptied_more, emptied_all, emptied_below}
+use Rattle.visit.proofs.Emptying.{recorded_at}
 use Rattle.found.specs.Inner.Turns.{rows_after}
 use Rattle.lift_text.specs.Text.{Told, told_in, line_text, lines_text}
 use Rattle.lift_text.proofs.Lines.{lines_append}
@@ -45,36 +45,35 @@ module _ (lifts tail : List ℕ) (g : Records) where
   abbrev pub lines_in : Bits → List ℕ
   lines_in set = set_lines lifts tail g.first set.words
 
-  -- n bytes are counted; with those of the rest they come to the total
-  pub record Sums (total : ℕ) (rest : Bits) (n : ℕ) : Type 0 where
-    pub below : Below g.count (members rest.words)
-    pub sum : n + length (lines_in rest) ≡ total
-    pub room : n + 65 * length (members rest.words) ≤ 20800
+  -- n bytes are counted; with those of the places left they come to the total
+  pub record Sums (total : ℕ) (left : List ℕ) (n : ℕ) : Type 0 where
+    pub below : Below g.count left
+    pub sum : n + length (row_lines (map (record_in lifts tail g.first) left)) ≡ total
+    pub room : n + 65 * length left ≤ 20800
 
-  module _ (r : Recorded lifts tail g) (total : ℕ) (rest : Bits) (n : ℕ) (i : Sums total rest n) (next : Next) (is : next ≡ next_of rest) where
-    pub sums_over : next.found ≡ false → (n ≡ total) × (n ≤ 20800)
+  module _ (r : Recorded lifts tail g) (total : ℕ) (left : List ℕ) (n : ℕ) (i : Sums total left n) where
+    pub sums_over : left ≡ [] → (n ≡ total) × (n ≤ 20800)
     unfolding lines_text
-    sums_over f = (omega (arith, rw (emptied_all rest next is f) at i.sum), omega (arith, i.room))
+    sums_over z = (omega (arith, rw z at i.sum), omega (arith, i.room))
 
-    module _ (f : next.found ≡ true) where
-      pub place_read : (next.at * 32 + 32 ≤ length lifts) × ((next.at - g.first) * 32 + 32 ≤ length tail)
-      place_read = recorded_at lifts tail g next.at r (emptied_below rest next is g.count f i.below).0
+    module _ (p : ℕ) (rest : List ℕ) (m : left ≡ p ∷ rest) where
+      pub place_read : (p * 32 + 32 ≤ length lifts) × ((p - g.first) * 32 + 32 ≤ length tail)
+      place_read = recorded_at lifts tail g p r (rw m at i.below).0
 
-      pub sums_more : (time code member width : ℕ) → time ≡ time_in lifts tail g.first next.at
-          → code ≡ code_in lifts tail g.first next.at → member ≡ member_in lifts tail g.first next.at
+      pub sums_more : (time code member width : ℕ) → time ≡ time_in lifts tail g.first p
+          → code ≡ code_in lifts tail g.first p → member ≡ member_in lifts tail g.first p
           → width ≡ length (line_text (record { time = time; load = load_of code; member = member })) → width ≤ 65
-          → Sums total next.rest (n + width)
+          → Sums total rest (n + width)
       unfolding lines_text
-      sums_more time code member width t c m w few =
-          let told = told_at next.at place_read.0 place_read.1 time code member t c m in
-          let line : width ≡ length (line_text (told_in (record_in lifts tail g.first next.at))) =
+      sums_more time code member width t c m' w few =
+          let told = told_at p place_read.0 place_read.1 time code member t c m' in
+          let line : width ≡ length (line_text (told_in (record_in lifts tail g.first p))) =
           w ∙ ap (λ (x : Told). length (line_text x)) told in
-          let more = emptied_more rest next is f in
-          let sum = rw more at i.sum in
-          let room = rw more at i.room in
-          let both = length-append (line_text (told_in (record_in lifts tail g.first next.at))) (lines_in next.rest) in
+          let sum = rw m at i.sum in
+          let room = rw m at i.room in
+          let both = length-append (line_text (told_in (record_in lifts tail g.first p))) (row_lines (map (record_in lifts tail g.first) rest)) in
           record {
-            below = (emptied_below rest next is g.count f i.below).1;
+            below = (rw m at i.below).1;
             sum = omega arith;
             room = omega arith;
           }
@@ -83,33 +82,33 @@ module _ (lifts tail : List ℕ) (g : Records) where
 
 module _ (nand : List ℕ) (slots : ℕ) (live : Live) (q : Query) (page : List ℕ) (o : Option (List (List ℕ))) (top : ℕ) where
   -- the newer rows are counted
-  pub record Sizes (t : Turn) (bytes : ℕ) : Type 0 where
+  pub record Sizes (t : Maybe Turn) (bytes : ℕ) : Type 0 where
     pub newer : List (List ℕ)
     pub through : Through nand slots live q page o top t newer
     pub bytes_are : bytes ≡ length (row_lines newer)
     pub few : bytes + 20800 * turns_left t ≤ 20800 * top
 
-  pub sizes_none : (t : Turn) → IsTurn nand slots live q page o top t → Sizes t 0
+  pub sizes_none : (t : Maybe Turn) → IsTurn nand slots live q page o top t → Sizes t 0
   unfolding lines_text
   sizes_none t i =
       record { newer = []; through = through_none nand slots live q page o top t i; bytes_are = refl; few = omega (arith, i.few) }
 
-  module _ (t : Turn) (bytes : ℕ) (i : Sizes t bytes) where
-    pub sizes_all : t.done ≡ true → SizeIs o (record { good = t.good; bytes = bytes }) × (bytes ≤ 20800 * top)
-    sizes_all d = (go t.good refl, omega (arith, i.few))
-      where
-        go : (b : Bool) → t.good ≡ b → SizeIs o (record { good = t.good; bytes = bytes })
-        go true h = rw (through_all nand slots live q page o top t i.newer i.through d h) (record { good = h; bytes = i.bytes_are })
-        go false h = rw (through_damage nand slots live q page o top t i.newer i.through d h) h
+  module _ (bytes : ℕ) where
+    pub sizes_all : Sizes None bytes → SizeIs o bytes
+    sizes_all i = record { rows = i.newer; are = through_all nand slots live q page o top i.newer i.through; bytes = i.bytes_are }
 
-    pub sizes_more : t.done ≡ false → (here : ℕ) → here ≡ length (row_lines (rows_of nand page t)) → here ≤ 20800 → (next : Turn)
-        → IsTurn nand slots live q page (rows_after nand slots live q t.c) t.c.before next → Sizes next (bytes + here)
-    sizes_more busy here here_is small next n =
-        record {
-          newer = rows_of nand page t ++ i.newer;
-          through = through_more nand slots live q page o top t i.newer i.through busy next n;
-          bytes_are =
-              rw (map-append told_in (rows_of nand page t) i.newer, lines_append (map told_in (rows_of nand page t)) (map told_in i.newer))
-              (simp length-append (omega (arith, i.bytes_are, here_is)));
-          few = omega (arith, rw busy at i.few, n.few);
-        }
+    module _ (t : Turn) (i : Sizes (Some t) bytes) where
+      pub sizes_damage : rows_after nand slots live q t.c ≡ none → o ≡ none
+      sizes_damage d = through_damage nand slots live q page o top i.newer t i.through d
+
+      pub sizes_more : (here : ℕ) → here ≡ length (row_lines (rows_of nand page t)) → here ≤ 20800 → (next : Maybe Turn)
+          → IsTurn nand slots live q page (rows_after nand slots live q t.c) t.c.before next → Sizes next (bytes + here)
+      sizes_more here here_is small next n =
+          record {
+            newer = rows_of nand page t ++ i.newer;
+            through = through_more nand slots live q page o top i.newer t i.through next n;
+            bytes_are =
+                rw (map-append told_in (rows_of nand page t) i.newer, lines_append (map told_in (rows_of nand page t)) (map told_in i.newer))
+                (simp length-append (omega (arith, i.bytes_are, here_is)));
+            few = omega (arith, i.few, n.few);
+          }

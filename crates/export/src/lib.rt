@@ -9,7 +9,7 @@ ghost use Rattle.export.specs.Call.{export_outcome};
 ghost use Rattle.export.specs.Inner.Sizing.{answered};
 
 use form::Form;
-use pieces::Exported;
+use grounds::Ground;
 use store::State;
 
 pub fn export(
@@ -22,12 +22,12 @@ pub fn export(
     k1: i32,
     k2: i32,
     area: &mut [u8],
-) -> Exported
+) -> Result<u64, Ground>
     ensures { answered result area.new
         ≡ export_outcome (world nand.now nor.now s) slots t1 t2 k1 k2 area.old }
 {
-    let n = s.ground(Form::New, 0, nand.len(), nor.len(), slots);
+    let judged = s.ground(Form::New, 0, nand.len(), nor.len(), slots);
     let page = s.page;
     let g = questions::log_of(s, slots);
-    pieces::export_from(n, &page, g, nand, nor, t1, t2, k1, k2, area)
+    pieces::export_from(judged, &page, g, nand, nor, t1, t2, k1, k2, area)
 }

@@ -36,8 +36,7 @@ pub fn slot_of(serial: u32, slots: u64) -> usize
     requires { (1 ≤ serial) × (1 ≤ slots) }
     ensures { (result ≡ slot_of serial slots) × (result < slots) }
 {
-    let n = (serial - 1) as u64;
-    (n % slots) as usize
+    ((serial - 1) as u64 % slots) as usize
 }
 
 // Where a page of a slot starts.
@@ -76,8 +75,7 @@ pub fn erase_slot(nand: &mut [u8], slot: usize)
 pub fn erase_chip(chip: &mut [u8])
     ensures { chip.new ≡ chip_erased (length chip.old) }
 {
-    let n = chip.len();
-    codec::fill(chip, 0, n, 255);
+    chip.fill(255);
 }
 
 // n pages of a slot, from page p on.
@@ -86,8 +84,7 @@ pub fn pages_of(nand: &[u8], slot: usize, p: Page, n: usize) -> &[u8]
     ensures { result.now ≡ pages_of nand.now slot p.0 n }
 {
     let a = page_at(slot, p);
-    let e = a + n * PAGE_BYTES;
-    &nand[a..e]
+    &nand[a..a + n * PAGE_BYTES]
 }
 
 // The n low bytes of v are written into NOR; the caller has seen that the bytes there are 255.
@@ -103,7 +100,5 @@ pub fn nor_tree(nor: &[u8]) -> &[u8]
     requires { tree_width ≤ length nor.now }
     ensures { result.now ≡ nor_tree nor.now }
 {
-    let a: usize = 0;
-    let e = TREE_BYTES;
-    &nor[a..e]
+    &nor[..TREE_BYTES]
 }

@@ -4,6 +4,7 @@ use mathlib.Core.Bool.{Bool, true, false, cond, not, ◌&&◌}
 use mathlib.Core.Option.{Option, none, some}
 use mathlib.Core.List.{List}
 use Prim.Native.Nat.{ℕ, ◌+◌, ◌*◌, ◌≤◌}
+use Rattle.std.specs.Prelude.{Some, None}
 use native.Mathlib.Omega.{arith}
 use lib.ListN.{length}
 use borrow.Author.Tests.{not-true, not-false}
@@ -21,8 +22,8 @@ use Rattle.found.specs.declared.Counted.{Counted}
 use Rattle.found.specs.Found.{join_rows, rows_from, closed_found, found_rows}
 use Rattle.found.specs.declared.Pages.{Pages}
 use Rattle.found.specs.Pages.{Read, bloom_sum, tree_sum, segments_read, pages_read}
-use Rattle.found.specs.Inner.Turns.{all_rows, rows_after, nothing_counted, count_of, with_read, read_after, all_pages, count_after}
-use Rattle.found.proofs.Counts.{never, count_join, count_most, pages_counted}
+use Rattle.found.specs.Inner.Turns.{all_rows, rows_after, rows_in, count_of, with_read, read_after, all_pages, count_after}
+use Rattle.found.proofs.Counts.{never, count_join}
 use Rattle.found.proofs.Matched.{open_few}
 use Rattle.found.proofs.Segments.{rows_any, read_any}
 
@@ -30,9 +31,15 @@ pub join_none : (older : Option (List (List ℕ))) → join_rows older none ≡ 
 join_none none = refl
 join_none (some rows) = refl
 
-pub count_good : (n : Counted) (pages : Pages) (o : Option (List (List ℕ))) → n ≡ count_of 0 pages o → n.good ≡ false → o ≡ none
-count_good n pages none e h = refl
-count_good n pages (some rows) e h = never (sym (ap (λ (x : Counted). x.good) e) ∙ h)
+-- a count without damage is that of rows
+pub record CountedIn (total : ℕ) (pages : Pages) (o : Option (List (List ℕ))) (n : Counted) : Type 0 where
+  pub rows : o ≡ some (rows_in o)
+  pub is : n ≡ record { total = total + length (rows_in o); pages = pages }
+
+module _ (total : ℕ) (pages : Pages) where
+  pub counted_some : (o : Option (List (List ℕ))) (n : Counted) → Some n ≡ count_of total pages o → CountedIn total pages o n
+  counted_some none n e = absurd (cc)
+  counted_some (some rows) n e = record { rows = refl; is = cc }
 
 -- ---- all segments
 
@@ -72,36 +79,30 @@ module _ (nand nor page : List ℕ) (g : Log) (live : Live) (q : Query) (c : Cur
         let r = read_any nand g.slots live q size c begun.sound (g.current + 1) (omega (arith, begun.before_most e)) in
         rw (r, b, t)
 
-    -- counting
-    module _ (moves : ℕ) (n : Counted) (is : n ≡ count_of 0 (record { headers = moves; bloom = 0; tree = 0 }) (open_rows nand nor page g q)) where
-      abbrev walked : Pages
-      walked = record { headers = moves; bloom = 0; tree = 0 }
+  -- counting
+  module _ (moves : ℕ) where
+    abbrev walked : Pages
+    walked = record { headers = moves; bloom = 0; tree = 0 }
 
-      pub count_all_none : not (c.good && n.good) ≡ true
-          → nothing_counted ≡ count_of 0 (all_pages nand g live q c moves) (all_rows nand nor page g live q c)
-      count_all_none e =
-          sym (ap (count_of 0 (all_pages nand g live q c moves))
-          (all_none n.good (λ h. count_good n walked (open_rows nand nor page g q) is h) (not-true _ e)))
+    module _ (n : Counted) (is : Some n ≡ count_of 0 walked (open_rows nand nor page g q)) where
+      abbrev counted : CountedIn 0 walked (open_rows nand nor page g q) n
+      counted = counted_some 0 walked (open_rows nand nor page g q) n is
 
-      pub count_all_few : OpenCount n
-      count_all_few =
-          let p = pages_counted 0 walked (open_rows nand nor page g q) in
-          let f = count_most 0 walked (open_rows nand nor page g q) (open_few nand nor page g q) in
-          record {
-            few = omega (arith, ap (λ (x : Counted). x.total) is, f);
-            bloom_none = omega (arith, ap (λ (x : Counted). x.pages.bloom) is, p.0);
-            tree_none = omega (arith, ap (λ (x : Counted). x.pages.tree) is, p.1);
-          }
+      pub count_few : OpenCount n
+      count_few =
+          let f = rw counted.rows at (open_few nand nor page g q) in
+          rw counted.is (record { few = omega arith; bloom_none = refl; tree_none = refl })
 
-      pub count_all_some : not (c.good && n.good) ≡ false → (r : Counted)
-          → r ≡ count_after nand g.slots live q n c
-          → r ≡ count_of 0 (all_pages nand g live q c moves) (all_rows nand nor page g live q c)
-      count_all_some e r f =
-          let a = and_left c.good n.good (not-false _ e) in
-          let b = and_right c.good n.good (not-false _ e) in
-          let j = count_join 0 walked (read_after nand g.slots live q c) (rows_after nand g.slots live q c) (open_rows nand nor page g q) n is in
-          f ∙ rw b at j ∙ ap (λ (p : Pages). count_of 0 p (join_rows (rows_after nand g.slots live q c) (open_rows nand nor page g q))) (pages_are a moves)
-          ∙ ap (count_of 0 (all_pages nand g live q c moves)) (sym (all_is a))
+      pub count_whole : length nand ≡ g.slots * 16384 → Begun g c → c.good ≡ true
+          → count_after nand g.slots live q n c ≡ count_of 0 (all_pages nand g live q c moves) (all_rows nand nor page g live q c)
+      count_whole size begun e =
+          rw counted.is (count_join 0 walked (read_after nand g.slots live q c) (rows_after nand g.slots live q c)
+          (rows_in (open_rows nand nor page g q)))
+          ∙ ap (λ (o : Option (List (List ℕ))). count_of 0 (with_read walked (read_after nand g.slots live q c))
+          (join_rows (rows_after nand g.slots live q c) o)) (sym counted.rows)
+          ∙ ap (λ (p : Pages). count_of 0 p (join_rows (rows_after nand g.slots live q c) (open_rows nand nor page g q)))
+          (pages_are size begun e moves)
+          ∙ ap (count_of 0 (all_pages nand g live q c moves)) (sym (all_is size begun e))
 
 -- ---- where the closed segments begin
 

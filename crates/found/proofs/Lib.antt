@@ -4,6 +4,8 @@ pub mod Falling
 pub mod Segments
 pub mod Most
 pub mod Counts
+pub mod Tried
+pub mod PassedOver
 pub mod PagesMost
 pub mod Placed
 pub mod All

@@ -1,7 +1,9 @@
 // How many lifts a search finds (document 01, "Search"): segment by segment, the open one first.
 #![tactic(auto)]
 
-ghost use Rattle.std.specs.Prelude.{◌≡◌, true, false, ◌+◌, ◌*◌, ◌^◌, ◌<◌, ◌≤◌, length};
+pub mod ahead;
+
+ghost use Rattle.std.specs.Prelude.{◌≡◌, Some, true, false, ◌+◌, ◌*◌, ◌^◌, ◌<◌, ◌≤◌, length};
 ghost use Rattle.lift.specs.Rows.{lifts_most};
 ghost use Rattle.flash.specs.Chip.{page_width, slot_width};
 ghost use Rattle.skiplist.specs.Skip.{serials_from};
@@ -9,15 +11,11 @@ ghost use Rattle.visit.specs.Visit.{closed_rows, open_rows, tree_read};
 ghost use Rattle.visit.specs.Inner.Sound.{ClosedSound, LogSound};
 ghost use Rattle.walk.specs.Inner.Sound.{Sound, Begun};
 ghost use Rattle.found.specs.Pages.{no_pages};
-ghost use Rattle.found.specs.Inner.Turns.{nothing_counted, count_of, counted_with, count_after, CountsOn};
-ghost use Rattle.found.specs.Inner.Turns.{with_pages, all_pages, all_rows, Fits};
+ghost use Rattle.found.specs.Inner.Turns.{count_of, counted_with, count_after, with_pages, all_pages, all_rows};
 
-use sweep::Sweep;
+use bitset::Bits;
 use visit::{Closed, Log, Query};
 use walk::{Cursor, Step};
-
-// Ground 10: damage is met.
-pub const DAMAGE: u8 = 10;
 
 // Pages read by a search (document 02, W-207): headers that the skip walk moved onto, Bloom pages that hold a bit tried, tree pages that
 // hold a bucket visited.
@@ -28,20 +26,11 @@ pub struct Pages {
     pub tree: u64,
 }
 
-// Whether no damage was met, how many were found, and the pages read.
+// How many were found, and the pages read.
 #[derive(Clone, Copy)]
 pub struct Counted {
-    pub good: bool,
     pub total: u64,
     pub pages: Pages,
-}
-
-// A count on its way: done at the last segment or at damage.
-#[derive(Clone, Copy)]
-struct Counting {
-    done: bool,
-    c: Cursor,
-    n: Counted,
 }
 
 pub fn no_pages() -> Pages
@@ -51,18 +40,6 @@ pub fn no_pages() -> Pages
         headers: 0,
         bloom: 0,
         tree: 0,
-    }
-}
-
-// Damage was met: nothing is counted.
-fn nothing() -> Counted
-    ensures { result ≡ nothing_counted }
-{
-    let none = no_pages();
-    Counted {
-        good: false,
-        total: 0,
-        pages: none,
     }
 }
 
@@ -78,119 +55,84 @@ fn pages_with(p: Pages, bloom: u8, tree: u32) -> Pages
     }
 }
 
-// A count with the matches of one more segment.
-fn counted_with(total: u64, pages: Pages, m: Sweep) -> Counted
+// A count with the places of one more segment's set.
+fn counted_with(total: u64, pages: Pages, set: Bits) -> Counted
     requires { total + 320 < 2 ^ 64 }
-    ensures { result ≡ counted_with total pages m }
+    ensures { Some result ≡ counted_with total pages (record { good = true; set = set }) }
 {
-    let good = m.good;
-    if good {
-        let set = m.set;
-        let n = set.count() as u64;
-        let more = total + n;
-        return Counted {
-            good: true,
-            total: more,
-            pages,
-        };
+    Counted {
+        total: total + set.count() as u64,
+        pages,
     }
-    nothing()
 }
 
 // How many the open segment has; it adds no pages to those of the skip walk.
-fn count_open(nand: &[u8], nor: &[u8], page: &[u8], g: Log, q: Query, walked: Pages) -> Counted
+fn count_open(
+    nand: &[u8],
+    nor: &[u8],
+    page: &[u8],
+    g: Log,
+    q: Query,
+    walked: Pages,
+) -> Option<Counted>
     requires log_sound { LogSound nand.now nor.now g }
     requires page_len { length page.now ≡ page_width }
     ensures { result ≡ count_of 0 walked (open_rows nand.now nor.now page.now g q) }
 {
     if g.count == 0 {
-        return Counted {
-            good: true,
+        return Some(Counted {
             total: 0,
             pages: walked,
-        };
+        });
     }
-    let m = visit::open_matches(nand, nor, page, g, q);
-    counted_with(0, walked, m)
+    let set = visit::open_matches(nand, nor, page, g, q)?;
+    Some(counted_with(0, walked, set))
 }
 
 // One closed segment more, whose Bloom pages are known.
-fn count_one(nand: &[u8], s: Closed, q: Query, n: Counted, bloom: u8) -> Counted
+fn count_one(nand: &[u8], s: Closed, q: Query, n: Counted, bloom: u8) -> Option<Counted>
     requires closed_sound { ClosedSound nand.now s }
     requires total_bound { (n.total + 320 < 2 ^ 64) × (n.pages.bloom + 255 < 2 ^ 64) × (n.pages.tree + 64 < 2 ^ 64) }
     ensures { result ≡ count_of n.total (with_pages n.pages (record { bloom = bloom; tree = tree_read nand.now s q }))
         (closed_rows nand.now s q) }
 {
-    let m = visit::closed_sweep(nand, s, q);
-    let tree = bitset::ones(m.read);
-    let pages = pages_with(n.pages, bloom, tree);
-    let found = m.found;
-    counted_with(n.total, pages, found)
-}
-
-// One segment on.
-fn count_on(nand: &[u8], slots: u64, oldest: u32, q: Query, r: Counting) -> Counting
-    requires nand_len { (length nand.now ≡ slots * slot_width) × (1 ≤ q.k1) × Fits r.n }
-    requires sound { Sound slots r.c }
-    requires done_value { (r.done ≡ false) × (r.n.good ≡ true) }
-    ensures { CountsOn nand.now slots (serials_from oldest) q r result }
-{
-    let c = r.c;
-    let n = r.n;
-    if walk::at_end(c, oldest) {
-        return Counting { done: true, c, n };
-    }
-    let p = c.next;
-    let seen = walk::look(nand, slots, q, p.slot, c.before);
-    let bloom = walk::bloom_of(seen);
-    let step = walk::step_of(p.slot, seen);
-    match step {
-        Step::End => Counting { done: true, c, n },
-        Step::Damage => {
-            let none = nothing();
-            Counting {
-                done: true,
-                c,
-                n: none,
-            }
-        }
-        Step::Pass(d) => {
-            let pages = pages_with(n.pages, bloom, 0);
-            Counting {
-                done: false,
-                c: d,
-                n: Counted {
-                    good: true,
-                    total: n.total,
-                    pages,
-                },
-            }
-        }
-        Step::Visit(s, d) => {
-            let more = count_one(nand, s, q, n, bloom);
-            let good = more.good;
-            Counting {
-                done: !good,
-                c: d,
-                n: more,
-            }
-        }
-    }
+    let m = visit::closed_sweep(nand, s, q)?;
+    let pages = pages_with(n.pages, bloom, bitset::ones(m.read));
+    Some(counted_with(n.total, pages, m.set))
 }
 
 // How many the closed segments from a cursor on have, with those of the open one.
-fn count_closed(nand: &[u8], slots: u64, oldest: u32, q: Query, c: Cursor, n: Counted) -> Counted
-    requires nand_len { (length nand.now ≡ slots * slot_width) × (1 ≤ q.k1) × (n.total ≤ lifts_most) }
-    requires sound { Sound slots c × (n.good ≡ true) × (n.pages.bloom ≡ 0) × (n.pages.tree ≡ 0) }
-    ensures { result ≡ count_after nand.now slots (serials_from oldest) q n c }
+fn count_closed(
+    nand: &[u8],
+    slots: u64,
+    oldest: u32,
+    q: Query,
+    c: Cursor,
+    newest: Counted,
+) -> Option<Counted>
+    requires nand_len { (length nand.now ≡ slots * slot_width) × (1 ≤ q.k1) × (newest.total ≤ lifts_most) }
+    requires sound { Sound slots c × (newest.pages.bloom ≡ 0) × (newest.pages.tree ≡ 0) }
+    ensures { result ≡ count_after nand.now slots (serials_from oldest) q newest c }
 {
-    let mut r = Counting { done: false, c, n };
+    let mut at = c;
+    let mut n = newest;
     loop {
-        r = count_on(nand, slots, oldest, q, r);
-        let done = r.done;
-        if done {
-            let n = r.n;
-            return n;
+        let (step, bloom) = ahead::one_on(nand, slots, oldest, q, at);
+        match step {
+            Step::End => return Some(n),
+            Step::Damage => return None,
+            Step::Pass(d) => {
+                let pages = pages_with(n.pages, bloom, 0);
+                n = Counted {
+                    total: n.total,
+                    pages,
+                };
+                at = d;
+            }
+            Step::Visit(s, d) => {
+                n = count_one(nand, s, q, n, bloom)?;
+                at = d;
+            }
         }
     }
 }
@@ -204,22 +146,21 @@ pub fn count_all(
     q: Query,
     c: Cursor,
     moves: u64,
-) -> Counted
+) -> Option<Counted>
     requires log_sound { LogSound nand.now nor.now g }
     requires page_len { (length page.now ≡ page_width) × (1 ≤ q.k1) }
     requires begun { Begun g c }
     ensures { result ≡ count_of 0 (all_pages nand.now g (serials_from g.oldest) q c moves)
         (all_rows nand.now nor.now page.now g (serials_from g.oldest) q c) }
 {
+    if !c.good {
+        return None;
+    }
     let walked = Pages {
         headers: moves,
         bloom: 0,
         tree: 0,
     };
-    let n = count_open(nand, nor, page, g, q, walked);
-    let good = c.good & n.good;
-    if !good {
-        return nothing();
-    }
-    count_closed(nand, g.slots, g.oldest, q, c, n)
+    let newest = count_open(nand, nor, page, g, q, walked)?;
+    count_closed(nand, g.slots, g.oldest, q, c, newest)
 }

@@ -1,25 +1,19 @@
 -- A step of the descent: the plan from here is the plan from the root. Assumes nothing.
 use Prim.Native.Nat.{ℕ, suc, ◌-◌, ◌≤◌, ◌<◌}
-use mathlib.Core.Path.{◌≡◌, sym, subst, ◌∙◌}
+use mathlib.Core.Path.{◌≡◌, sym, subst}
 use mathlib.Core.Bool.{true, false, cond}
-use mathlib.Core.Option.{Option, none, some}
+use mathlib.Core.Option.{none, some}
 use mathlib.Core.List.{List}
 use native.Mathlib.Omega.{arith}
 use borrow.Author.Tests.{eq-eqb, ne_eqb}
 use Rattle.tree.specs.Rules.{next}
-use Rattle.tree.specs.Reading.{bucket_at, Node, node_in, child_at, kids_of, node_good}
+use Rattle.tree.specs.Reading.{bucket_at, Node, node_in, kids_of, node_good}
 use Rattle.tree.specs.Plan as Tree
 use Rattle.tree.specs.Plan.{damaged, no_room, new_root, plan_here, plan_from, or_no_room, plan_on}
 use Rattle.tree.proofs.Clears.{next_below, good_kids, Within, plan_within}
 use Rattle.grow.specs.Inner.Meaning.{meaning, Fitting}
 use Rattle.grow.specs.declared.Plan.{Plan}
 use Rattle.grow.specs.declared.Plan.TheVariants.{Damage, Full, Root, Entry, Child, Split}
-
-pub child_is : (c : ℕ) → (c ≡ 255 → ⊥) → (o : Option ℕ) → child_at c ≡ o → o ≡ some c
-child_is c h o e = sym e ∙ rw (ne_eqb c 255 h)
-
-pub child_none : (c : ℕ) → c ≡ 255 → (o : Option ℕ) → child_at c ≡ o → o ≡ none
-child_none c h o e = sym e ∙ rw (eq-eqb c 255 h)
 
 module _ (area : List ℕ) (buckets count : ℕ) (loads : List ℕ) (l : ℕ) (w : Tree.Plan) (steps b : ℕ)
     (leads : or_no_room buckets (plan_from area buckets count loads l steps b) ≡ w) where
@@ -82,5 +76,5 @@ module _ (area : List ℕ) (buckets count : ℕ) (loads : List ℕ) (l : ℕ) wh
       go Full w = tt
       go Root w = tt
       go (Entry b i) w = w
-      go (Child b side x y) w = w
-      go (Split b m side x y) w = w
+      go (Child b side x y) w = (w.0, w.1)
+      go (Split b m side x y) w = (w.0, w.1)

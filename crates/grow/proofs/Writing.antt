@@ -6,6 +6,7 @@ use Rattle.tree.specs.Writes.{writes_of}
 use Rattle.tree.proofs.Clears.{Within, Rising, writes_rise}
 use Rattle.grow.specs.Inner.Meaning.{meaning, Fitting}
 use Rattle.grow.specs.Inner.Written.{all_of, InTree}
+use Rattle.grow.specs.declared.Side.TheVariants.{Left, Right}
 use Rattle.grow.specs.declared.Plan.{Plan}
 use Rattle.grow.specs.declared.Plan.TheVariants.{Damage, Full, Root, Entry, Child, Split}
 use Rattle.grow.specs.declared.Writes.{Writes}
@@ -15,8 +16,10 @@ within n Damage f = tt
 within n Full f = tt
 within n Root f = tt
 within n (Entry b i) f = f
-within n (Child b side x y) f = f
-within n (Split b m side x y) f = f
+within n (Child b Left x y) f = (f.0, f.1, omega arith, omega arith)
+within n (Child b Right x y) f = (f.0, f.1, omega arith, omega arith)
+within n (Split b m Left x y) f = (f.0, f.1, omega arith, omega arith)
+within n (Split b m Right x y) f = (f.0, f.1, omega arith, omega arith)
 
 -- the writes of a plan p that is the case q
 module _ (p : Plan) (n l position : ℕ) (fits : Fitting n p) (few : n ≤ 36) where

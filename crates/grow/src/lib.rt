@@ -10,12 +10,31 @@ ghost use Rattle.tree.specs.Reading.{child_at, kids_of};
 ghost use Rattle.tree.specs.Plan.{damaged, into_bucket, plan_here, plan_from, or_no_room, plan_on};
 ghost use Rattle.tree.specs.Place.{bucket_start};
 ghost use Rattle.tree.specs.Writes as Tree;
-ghost use Rattle.grow.specs.Inner.Meaning.{meaning, Fitting};
-ghost use Rattle.grow.specs.Inner.Written.{write_of, all_of, growth, InTree};
-ghost use Rattle.grow.specs.Inner.Sight.{Sees};
+ghost use Rattle.grow.specs.Inner.Meaning.{byte_of, meaning, Fitting};
+ghost use Rattle.grow.specs.Inner.Written.{put_in, write_of, all_of, growth, Inside, InTree};
+ghost use Rattle.grow.specs.Inner.Sight.{Sees, is_child};
 
 use lift::LOADS_KEPT;
 use tree::{Bucket, Node};
+
+// The side of a split bucket that a load goes to.
+#[derive(Clone, Copy)]
+pub enum Side {
+    Left,
+    Right,
+}
+
+impl Side {
+    // The byte of the child's number.
+    fn byte(self) -> usize
+        ensures { result ≡ byte_of self }
+    {
+        match self {
+            Side::Left => tree::LEFT_AT,
+            Side::Right => tree::RIGHT_AT,
+        }
+    }
+}
 
 // Where an entry goes.
 #[derive(Clone, Copy)]
@@ -28,13 +47,13 @@ pub enum Plan {
     Root,
     // Into a bucket, as its entry i.
     Entry(Bucket, usize),
-    // Below a split bucket, into a new child: the byte of the child's number, and its range (x, y].
-    Child(Bucket, usize, u32, u32),
-    // A full bucket is split at a mid, and a new child takes the entry: that byte, and the child's range.
-    Split(Bucket, u32, usize, u32, u32),
+    // Below a split bucket, into a new child: its side, and its range (x, y].
+    Child(Bucket, Side, u32, u32),
+    // A full bucket is split at a mid, and a new child takes the entry: its side, and its range.
+    Split(Bucket, u32, Side, u32, u32),
 }
 
-// `len` bytes from `at` on get a number; none where len is 0.
+// `len` bytes from `at` on get a number.
 #[derive(Clone, Copy)]
 pub struct Write {
     pub at: usize,
@@ -45,40 +64,26 @@ pub struct Write {
 // All that an insertion writes, in this order.
 #[derive(Clone, Copy)]
 pub struct Writes {
-    pub mid: Write,
-    pub child: Write,
-    pub range: Write,
-    pub entry: Write,
+    pub mid: Option<Write>,
+    pub child: Option<Write>,
+    pub range: Option<Write>,
+    pub entry: Option<Write>,
 }
 
-fn pick(q: bool, a: u32, b: u32) -> u32
-    ensures { result ≡ cond q a b }
-{
-    if q { a } else { b }
-}
-
-// The byte of the child's number.
-fn side_of(left: bool) -> usize
-    ensures { result ≡ cond left 12 13 }
-{
-    if left {
-        return tree::LEFT_AT;
-    }
-    tree::RIGHT_AT
-}
-
-// "at a split bucket go left if load ≤ mid, else right": the child's number there, 255 for none.
-fn child_for(n: Node, code: u32) -> u8
-    ensures { (m : Reading.Node) → Sees n m → child_at result ≡ next (kids_of m) code }
+// "at a split bucket go left if load ≤ mid, else right": the child there.
+fn child_for(n: Node, code: u32) -> Option<u8>
+    ensures { (m : Reading.Node) → Sees n m → is_child result (next (kids_of m) code) }
 {
     let mid = n.mid;
     if mid == tree::NO_MID {
-        return tree::NO_CHILD;
+        return None;
     }
-    if code <= mid {
-        return n.left;
+    let child = if code <= mid { n.left } else { n.right };
+    if child == tree::NO_CHILD {
+        None
+    } else {
+        Some(child)
     }
-    n.right
 }
 
 // The load stays at bucket b: it has no child there.
@@ -87,30 +92,28 @@ fn plan_here(n: Node, b: u8, buckets: u8, loads: [u32; LOADS_KEPT], code: u32) -
     requires by_index { (k : ℕ) → k < loads_kept → get_or loads k 0 ≤ code_most }
     ensures { (m : Reading.Node) → Sees n m → meaning result ≡ or_no_room buckets (plan_here m b loads code (kids_of m)) }
 {
-    let x = n.x;
-    let y = n.y;
-    let mid = n.mid;
-    let used = n.used;
-    let whole = mid == tree::NO_MID;
-    if whole & (used < tree::ENTRIES_PER_BUCKET) {
-        return Plan::Entry(Bucket(b), used);
+    let whole = n.mid == tree::NO_MID;
+    if whole & (n.used < tree::ENTRIES_PER_BUCKET) {
+        return Plan::Entry(Bucket(b), n.used);
     }
     if tree::BUCKETS_MOST <= buckets {
         return Plan::Full;
     }
+    let mid = if whole {
+        split::mid_of(n.x, n.y, loads)
+    } else {
+        n.mid
+    };
+    let (side, x, y) = if code <= mid {
+        (Side::Left, n.x, mid)
+    } else {
+        (Side::Right, mid, n.y)
+    };
     if whole {
-        let m = split::mid_of(x, y, loads);
-        let left = code <= m;
-        let side = side_of(left);
-        let low = pick(left, x, m);
-        let high = pick(left, m, y);
-        return Plan::Split(Bucket(b), m, side, low, high);
+        Plan::Split(Bucket(b), mid, side, x, y)
+    } else {
+        Plan::Child(Bucket(b), side, x, y)
     }
-    let left = code <= mid;
-    let side = side_of(left);
-    let low = pick(left, x, mid);
-    let high = pick(left, mid, y);
-    Plan::Child(Bucket(b), side, low, high)
 }
 
 // Down from the root; each bucket on the path is checked whole.
@@ -120,19 +123,14 @@ fn descend(tree: &[u8], buckets: u8, count: u16, loads: [u32; LOADS_KEPT], code:
     ensures { meaning result ≡ or_no_room buckets (plan_from tree.now buckets count loads code buckets 0) }
 {
     let mut b: u8 = 0;
-    let mut steps = buckets;
-    while 0 < steps {
-        steps -= 1;
+    for _step in 0..buckets {
         let bucket = tree::bucket_of(tree, Bucket(b));
-        let n = tree::node_in(bucket, Bucket(b), buckets, count);
-        let good = n.good;
-        if !good {
+        let Some(n) = tree::node_in(bucket, Bucket(b), buckets, count) else {
             return Plan::Damage;
-        }
-        let c = child_for(n, code);
-        if c == tree::NO_CHILD {
+        };
+        let Some(c) = child_for(n, code) else {
             return plan_here(n, b, buckets, loads, code);
-        }
+        };
         b = c;
     }
     Plan::Damage
@@ -160,22 +158,9 @@ pub fn buckets_after(p: Plan, buckets: u8) -> u8
     ensures { result ≡ Tree.buckets_after (meaning p) buckets }
 {
     match p {
-        Plan::Damage => buckets,
-        Plan::Full => 1,
-        Plan::Root => 1,
-        Plan::Entry(_, _) => buckets,
-        Plan::Child(_, _, _, _) => buckets + 1,
-        Plan::Split(_, _, _, _, _) => buckets + 1,
-    }
-}
-
-fn nothing() -> Write
-    ensures { write_of result ≡ Tree.nothing }
-{
-    Write {
-        at: 0,
-        len: 0,
-        value: 0,
+        Plan::Damage | Plan::Entry(..) => buckets,
+        Plan::Full | Plan::Root => 1,
+        Plan::Child(..) | Plan::Split(..) => buckets + 1,
     }
 }
 
@@ -189,78 +174,55 @@ fn pair(a: u32, b: u32) -> u64
 // A write within a bucket.
 fn write_in(b: Bucket, offset: usize, len: usize, value: u64) -> Write
     requires { offset ≤ 128 }
-    ensures { write_of result ≡ record { to = bucket_start b.0 + offset; len = len; value = value } }
+    ensures { put_in result ≡ record { to = bucket_start b.0 + offset; len = len; value = value } }
 {
-    let start = tree::start_of(b);
-    let at = start + offset;
+    let at = tree::start_of(b) + offset;
     Write { at, len, value }
 }
 
 fn mid_write(b: Bucket, mid: u32) -> Write
-    ensures { write_of result ≡ Tree.mid_write b.0 mid }
+    ensures { put_in result ≡ Tree.mid_write b.0 mid }
 {
     write_in(b, tree::MID_AT, 4, mid as u64)
 }
 
-fn child_write(b: Bucket, side: usize, child: u8) -> Write
-    requires { side ≤ 13 }
-    ensures { write_of result ≡ Tree.child_write b.0 side child }
+fn child_write(b: Bucket, side: Side, child: u8) -> Write
+    ensures { put_in result ≡ Tree.child_write b.0 (byte_of side) child }
 {
-    write_in(b, side, 1, child as u64)
+    write_in(b, side.byte(), 1, child as u64)
 }
 
 fn range_write(b: Bucket, x: u32, y: u32) -> Write
-    ensures { write_of result ≡ Tree.range_write b.0 x y }
+    ensures { put_in result ≡ Tree.range_write b.0 x y }
 {
     write_in(b, 0, 8, pair(x, y))
 }
 
 fn entry_write(b: Bucket, i: usize, code: u32, position: u16) -> Write
     requires { i < entries_most }
-    ensures { write_of result ≡ Tree.entry_write b.0 i code position }
+    ensures { put_in result ≡ Tree.entry_write b.0 i code position }
 {
     let offset = tree::ENTRIES_AT + tree::ENTRY_BYTES * i;
     write_in(b, offset, 6, pair(code, position as u32))
 }
 
 // A new bucket with its range and its first entry, after a mid and a child's number.
-fn grown(mid: Write, child: Write, n: u8, x: u32, y: u32, code: u32, position: u16) -> Writes
+fn grown(
+    mid: Option<Write>,
+    child: Option<Write>,
+    n: u8,
+    x: u32,
+    y: u32,
+    code: u32,
+    position: u16,
+) -> Writes
     ensures { all_of result ≡ growth (write_of mid) (write_of child) n x y code position }
 {
-    let range = range_write(Bucket(n), x, y);
-    let entry = entry_write(Bucket(n), 0, code, position);
     Writes {
         mid,
         child,
-        range,
-        entry,
-    }
-}
-
-// An entry alone.
-fn entered(b: Bucket, i: usize, code: u32, position: u16) -> Writes
-    requires { i < entries_most }
-    ensures { all_of result ≡ Tree.writes_of (into_bucket b.0 i) 0 code position }
-{
-    let none = nothing();
-    let entry = entry_write(b, i, code, position);
-    Writes {
-        mid: none,
-        child: none,
-        range: none,
-        entry,
-    }
-}
-
-fn no_writes() -> Writes
-    ensures { all_of result ≡ Tree.writes_of damaged 0 0 0 }
-{
-    let none = nothing();
-    Writes {
-        mid: none,
-        child: none,
-        range: none,
-        entry: none,
+        range: Some(range_write(Bucket(n), x, y)),
+        entry: Some(entry_write(Bucket(n), 0, code, position)),
     }
 }
 
@@ -272,27 +234,39 @@ pub fn writes_of(p: Plan, buckets: u8, code: u32, position: u16) -> Writes
     ensures inside { InTree result }
 {
     match p {
-        Plan::Damage => no_writes(),
-        Plan::Full => grown(nothing(), nothing(), 0, 0, tree::TOP, code, position),
-        Plan::Root => grown(nothing(), nothing(), 0, 0, tree::TOP, code, position),
-        Plan::Entry(b, i) => entered(b, i, code, position),
+        Plan::Damage => Writes {
+            mid: None,
+            child: None,
+            range: None,
+            entry: None,
+        },
+        Plan::Full | Plan::Root => grown(None, None, 0, 0, tree::TOP, code, position),
+        Plan::Entry(b, i) => Writes {
+            mid: None,
+            child: None,
+            range: None,
+            entry: Some(entry_write(b, i, code, position)),
+        },
         Plan::Child(b, side, x, y) => {
             let child = child_write(b, side, buckets);
-            grown(nothing(), child, buckets, x, y, code, position)
+            grown(None, Some(child), buckets, x, y, code, position)
         }
         Plan::Split(b, m, side, x, y) => {
             let mid = mid_write(b, m);
             let child = child_write(b, side, buckets);
-            grown(mid, child, buckets, x, y, code, position)
+            grown(Some(mid), Some(child), buckets, x, y, code, position)
         }
     }
 }
 
-fn is_clear(nor: &[u8], w: Write) -> bool
-    requires { w.at + w.len ≤ length nor.now }
-    ensures { result ≡ Tree.is_clear nor.now (write_of w) }
+fn is_clear(nor: &[u8], write: Option<Write>) -> bool
+    requires { Inside (write_of write) (length nor.now) }
+    ensures { result ≡ Tree.is_clear nor.now (write_of write) }
 {
-    codec::all_ones(nor, w.at, w.len)
+    match write {
+        Some(w) => codec::all_ones(nor, w.at, w.len),
+        None => true,
+    }
 }
 
 // Whether all bytes due for writing are 255.
@@ -300,18 +274,16 @@ pub fn clear(nor: &[u8], w: Writes) -> bool
     requires { (tree_width ≤ length nor.now) × InTree w }
     ensures { result ≡ Tree.all_clear nor.now (all_of w) }
 {
-    let a = is_clear(nor, w.mid);
-    let b = is_clear(nor, w.child);
-    let c = is_clear(nor, w.range);
-    let d = is_clear(nor, w.entry);
-    a & b & c & d
+    is_clear(nor, w.mid) & is_clear(nor, w.child) & is_clear(nor, w.range) & is_clear(nor, w.entry)
 }
 
-fn put_write(nor: &mut [u8], w: Write)
-    requires { w.at + w.len ≤ length nor.old }
-    ensures { nor.new ≡ Tree.written nor.old (write_of w) }
+fn put_write(nor: &mut [u8], write: Option<Write>)
+    requires { Inside (write_of write) (length nor.old) }
+    ensures { nor.new ≡ Tree.written nor.old (write_of write) }
 {
-    flash::write_nor(nor, w.at, w.len, w.value);
+    if let Some(w) = write {
+        flash::write_nor(nor, w.at, w.len, w.value);
+    }
 }
 
 // The writes are carried out.

@@ -1,5 +1,5 @@
 -- The header page of a closed segment (document 01, "Bloom and skip list"; damage: "Search", second paragraph). Assumes nothing.
-use Rattle.std.specs.Prelude.{Bool, true, ◌&&◌, List, [], ◌∷◌, ◌++◌, ℕ, ◌+◌, ◌-◌, ◌*◌, eqb, leb, ltb}
+use Rattle.std.specs.Prelude.{Bool, true, ◌&&◌, List, [], ◌∷◌, ◌++◌, ℕ, ◌-◌, ◌*◌, eqb, leb, ltb}
 use Rattle.tree.specs.Rules.{buckets_most}
 use Rattle.codec.specs.Area.{repeated}
 use Rattle.codec.specs.Number.{bytes, number_at}

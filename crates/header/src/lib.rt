@@ -20,7 +20,8 @@ use skiplist::{LEVELS, Pointer};
 // Where the pointers stand in a header.
 const POINTERS_AT: usize = 40;
 
-// A header as read; `good` where it has no damage.
+// A header as read; `good` where it has no damage. A field and not an Option: `header_in` of specs/Header, on which World and the
+// theorems of refinement and round_trips stand, has its numbers also where there is damage.
 #[derive(Clone, Copy)]
 pub struct Header {
     pub good: bool,
@@ -59,13 +60,14 @@ fn counts_good(count: u16, buckets: u8, sections: u8, fragment: u8) -> bool
     ensures { result ≡ counts_good count buckets sections fragment }
 {
     if count < 1 {
-        return false;
+        false
+    } else {
+        let s = bloom::sections_of(count);
+        let l = bloom::fragment_of(s);
+        (count <= lift::LIFTS_MOST)
+            & (((1 <= buckets) & (buckets <= tree::BUCKETS_MOST))
+                & ((sections as usize == s) & (fragment as usize == l)))
     }
-    let s = bloom::sections_of(count);
-    let l = bloom::fragment_of(s);
-    (count <= lift::LIFTS_MOST)
-        & (((1 <= buckets) & (buckets <= tree::BUCKETS_MOST))
-            & ((sections as usize == s) & (fragment as usize == l)))
 }
 
 fn span_good(start: u64, end: u64, low: u32, high: u32) -> bool
@@ -79,8 +81,7 @@ fn span_good(start: u64, end: u64, low: u32, high: u32) -> bool
 fn pointer_good(p: Pointer, slots: u64) -> bool
     ensures { result ≡ pointer_good slots p }
 {
-    let time = p.time;
-    lift::time_ok(time) & p.in_slots(slots)
+    lift::time_ok(p.time) & p.in_slots(slots)
 }
 
 fn pointers_good(p: [Pointer; LEVELS], slots: u64) -> bool
@@ -187,7 +188,7 @@ pub fn pointer_in(h: &[u8], form: Form, k: usize) -> Pointer
     requires { (length h.now ≡ page_width) × (k < levels) }
     ensures { result ≡ get_or (pointers_at form h.now pointers_from) k none }
 {
-    skiplist::pointer_at(h, POINTERS_AT + form::pointer_bytes(form) * k, form)
+    skiplist::pointer_at(h, POINTERS_AT + form.pointer_bytes() * k, form)
 }
 
 // The header page h as read.
@@ -198,14 +199,14 @@ pub fn header_in(h: &[u8], form: Form, slots: u64, before: u32) -> Header
     let good = header_good(h, form, slots, before);
     let next = skiplist::pointers_at(h, POINTERS_AT, form);
     Header {
-        good: good,
+        good,
         serial: serial_in(h),
         count: count_in(h),
         buckets: buckets_in(h),
         start: start_in(h),
         low: low_in(h),
         high: high_in(h),
-        next: next,
+        next,
     }
 }
 
@@ -219,7 +220,7 @@ pub fn put_form(h: &mut [u8], form: Form)
     requires { 16 ≤ length h.old }
     ensures { h.new ≡ splice h.old 10 (form_bytes form) }
 {
-    codec::put_u8(h, 10, form::byte_ten(form));
+    codec::put_u8(h, 10, form.byte_ten());
     codec::fill(h, 11, 5, 0);
 }
 

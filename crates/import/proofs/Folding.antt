@@ -1,7 +1,7 @@
 -- An import line by line, whatever a store is: what is left to import gives what the whole does. Assumes nothing.
 use mathlib.Core.Path.{◌≡◌, refl, sym, ap, ◌∙◌}
 use mathlib.Core.Bool.{Bool, true, false, cond, ◌&&◌}
-use mathlib.Core.Option.{Option, none, some}
+use mathlib.Core.Option.{none}
 use mathlib.Core.List.{List, [], ◌∷◌}
 use Prim.Native.Nat.{ℕ, suc, ◌+◌, ◌≤◌, ◌<◌}
 use native.Mathlib.Decide.{ℕ_discrete}
@@ -12,12 +12,11 @@ use lib.ListN.{length, get_or, drop}
 use lib.Seq.{drop-cons, drop-length}
 use borrow.Author.Tests.{ne_eqb}
 use Rattle.lift_text.specs.Text.{Told}
-use Rattle.csv_text.specs.declared.Heading.{Heading}
 use Rattle.csv_text.specs.declared.Line.{Line}
-use Rattle.csv_text.specs.Grammar.{onto_first, lines_of, after_first}
+use Rattle.csv_text.specs.Grammar.{onto_first, lines_of, has_heading, after_first}
 use Rattle.csv_text.specs.Inner.Reading.{first_record, told_by, LineRead, HeadingRead}
-use Rattle.import.specs.Fold.{Imported, line_number, line_after, import_lines, import_text}
-use Rattle.import.specs.Inner.Lines.{told_or, imported}
+use Rattle.import.specs.Fold.{Imported, bad_form, line_number, line_after, import_lines, import_text}
+use Rattle.import.specs.Inner.Lines.{imported}
 
 -- ---- the lines of a text
 
@@ -44,14 +43,6 @@ lines_over : (text : List ℕ) (at : ℕ) → length text ≡ at → lines_of (d
 unfolding lines_of
 lines_over text at e = rw (← e, drop-length text)
 
--- what is read of a line is its record
-told_read : (text : List ℕ) (at : ℕ) (l : Line) → LineRead text at l → first_record (lines_of (drop at text)) ≡ told_or l
-told_read text at l r = go l.good refl
-  where
-    go : (b : Bool) → l.good ≡ b → first_record (lines_of (drop at text)) ≡ cond b (some (told_by l)) none
-    go true e = r.good e
-    go false e = r.bad e
-
 -- ---- line by line
 
 module _ {X : Type 0} (before : X → ℕ) (number : X → Told → ℕ) (after : X → Told → X) where
@@ -76,11 +67,6 @@ module _ {X : Type 0} (before : X → ℕ) (number : X → Told → ℕ) (after 
       go (yes z) = absurd (omega (arith, rw z at e))
       go (no f) = f (rw (ne_eqb (before x) 0 f) at e)
 
-  line_kept : (x : X) (o : Option Told) → ((r : Told) → (number x r ≡ 0 → ⊥) → after x r ≡ x)
-      → (line_number before number after x o ≡ 0 → ⊥) → line_after before number after x o ≡ x
-  line_kept x none keeps f = refl
-  line_kept x (some r) keeps f = keeps r f
-
   module _ (text : List ℕ) where
     -- from a place and a line on
     pub record Imports (whole : Imported X) (at line : ℕ) (x : X) : Type 0 where
@@ -93,35 +79,34 @@ module _ {X : Type 0} (before : X → ℕ) (number : X → Told → ℕ) (after 
       unfolding import_lines
       all_in h = sym (rw (lines_over text at (omega (arith, i.inside)))) ∙ i.leads
 
-      -- a line is read, n is its number and y the store after it
-      module _ (more : at < length text) (l : Line) (r : LineRead text at l) (n : ℕ) (y : X)
-          (n_is : n ≡ line_number before number after x (told_or l)) (y_is : y ≡ line_after before number after x (told_or l)) where
-        number_is : n ≡ line_number before number after x (first_record (lines_of (drop at text)))
-        number_is = n_is ∙ ap (line_number before number after x) (sym (told_read text at l r))
+      module _ (more : at < length text) where
+        -- the first line from here ends it, by its number
+        ends_so : (n : ℕ) → n ≡ line_number before number after x (first_record (lines_of (drop at text))) → (n ≡ 0 → ⊥)
+            → imported n line x ≡ whole
+        ends_so n e f = first_ends line (lines_of (drop at text)) x (lines_there text at more) n e f ∙ i.leads
 
-        -- "only earlier ones remain": a refused append leaves the store as it was
-        pub ends_here : ((r : Told) → (number x r ≡ 0 → ⊥) → after x r ≡ x) → (n ≡ 0 → ⊥) → imported n line y ≡ whole
-        ends_here keeps f =
-            ap (λ (z : X). imported n line z) (y_is ∙ line_kept x (told_or l) keeps (λ e. f (n_is ∙ e)))
-            ∙ first_ends line (lines_of (drop at text)) x (lines_there text at more) n number_is f
-            ∙ i.leads
+        -- a bad record
+        pub bad_here : first_record (lines_of (drop at text)) ≡ none → (n : ℕ) → n ≡ cond (eqb (before x) 0) bad_form (before x)
+            → imported n line x ≡ whole
+        bad_here e n n_is = ends_so n (rw e n_is) (λ z. bad_some x (sym n_is ∙ z))
 
-        module _ (z : n ≡ 0) where
-          pub record_good : l.good ≡ true
-          record_good = go l.good refl
-            where
-              go : (b : Bool) → l.good ≡ b → l.good ≡ true
-              go true e = e
-              go false e = absurd (bad_some x (sym (n_is ∙ rw e) ∙ z))
+        -- a record is read, n is the number of its append and y the store after it
+        module _ (l : Line) (r : LineRead text at l) (n : ℕ) (y : X) (n_is : n ≡ number x (told_by l)) (y_is : y ≡ after x (told_by l)) where
+          number_is : n ≡ line_number before number after x (first_record (lines_of (drop at text)))
+          number_is = n_is ∙ ap (line_number before number after x) (sym r.says)
 
-          pub goes_in : Imports whole l.next (line + 1) y
-          goes_in =
+          -- "only earlier ones remain": a refused append leaves the store as it was
+          pub ends_here : ((r : Told) → (number x r ≡ 0 → ⊥) → after x r ≡ x) → (n ≡ 0 → ⊥) → imported n line y ≡ whole
+          ends_here keeps f =
+              ap (λ (z : X). imported n line z) (y_is ∙ keeps (told_by l) (λ e. f (n_is ∙ e))) ∙ ends_so n number_is f
+
+          pub goes_in : n ≡ 0 → Imports whole l.next (line + 1) y
+          goes_in z =
               let step = first_goes_in line (lines_of (drop at text)) x (lines_there text at more) (sym number_is ∙ z) in
               record {
-                leads =
-                    rw (add-one line, y_is ∙ ap (line_after before number after x) (sym (told_read text at l r)), ← r.on record_good) (step ∙ i.leads);
-                inside = r.inside record_good;
-                few = omega (arith, i.few, r.further record_good);
+                leads = rw (add-one line, y_is ∙ ap (line_after before number after x) (sym r.says), ← r.on) (step ∙ i.leads);
+                inside = r.inside;
+                few = omega (arith, i.few, r.further);
               }
 
     -- the first line behind the header is line 2
@@ -136,12 +121,12 @@ module _ {X : Type 0} (before : X → ℕ) (number : X → Told → ℕ) (after 
       unfolding import_text
       text_refused n e f = rw (← e, ne_eqb n 0 f)
 
-      module _ (z : before x ≡ 0) (h : Heading) (r : HeadingRead text h) where
-        pub heading_bad : h.good ≡ false → imported 18 1 x ≡ import_text before number after text x
+      module _ (z : before x ≡ 0) where
+        pub heading_bad : has_heading (lines_of text) ≡ false → imported bad_form 1 x ≡ import_text before number after text x
         unfolding import_text
-        heading_bad f = rw (z, sym r.is ∙ f)
+        heading_bad f = rw (z, f)
 
-        pub heading_good : h.good ≡ true
-            → import_lines before number after 2 (lines_of (drop h.next text)) x ≡ import_text before number after text x
+        pub heading_good : {next : ℕ} → HeadingRead text next
+            → import_lines before number after 2 (lines_of (drop next text)) x ≡ import_text before number after text x
         unfolding import_text
-        heading_good f = rw (z, sym r.is ∙ f, ← r.on f)
+        heading_good r = rw (z, r.is, ← r.on)

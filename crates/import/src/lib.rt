@@ -5,49 +5,59 @@ pub mod counted;
 pub mod pieces;
 
 ghost use Rattle.std.specs.Prelude.{◌≡◌, ◌≤◌, length, drop};
+ghost use Rattle.std.proofs.Math.Option.{some};
+ghost use Rattle.std.specs.declared.result.Result.TheVariants.{Err};
+ghost use Rattle.grounds.specs.Numbers.{number_in};
 ghost use Rattle.csv_text.specs.Grammar.{lines_of};
+ghost use Rattle.csv_text.specs.Inner.Reading.{told_by};
 ghost use Rattle.store.specs.World.{world};
-ghost use Rattle.store.specs.Calls.{returned, state_ground};
+ghost use Rattle.store.specs.Calls.{returned, next_state, state_ground};
 ghost use Rattle.import.specs.Fold.{import_lines};
 ghost use Rattle.import.specs.Call.{append_told, import_outcome};
-ghost use Rattle.import.specs.Inner.Lines.{told_or, line_outcome, imported};
+ghost use Rattle.import.specs.Inner.Lines.{line_outcome};
+ghost use Rattle.import.specs.Inner.Ends.{imported_by};
 
 use csv_text::Line;
 use form::Form;
-use pieces::BAD_FORM;
-use store::{Answer, State};
+use grounds::Ground;
+use store::State;
 
-// The number, the line that ended the import (0 if all went in), and the state with what was appended.
+// What ends an import before its end: the ground of a record or an append, and its line. The header is line 1; a ground of the whole has
+// line 0.
 #[derive(Clone, Copy)]
-pub struct Imported {
-    pub number: u8,
+pub struct Stop {
+    pub ground: Ground,
     pub line: u64,
-    pub state: State,
 }
 
-fn ended(number: u8, line: u64, state: State) -> Imported
-    ensures { result ≡ record { number = number; line = line; state = state } }
+// What is left of a store, with what was appended, and what ended the import.
+#[derive(Clone, Copy)]
+pub struct Imported<S> {
+    pub left: S,
+    pub end: Result<(), Stop>,
+}
+
+fn stopped<S>(ground: Ground, line: u64, left: S) -> Imported<S>
+    ensures { result ≡ record { left = left; end = Err (record { ground = ground; line = line }) } }
 {
+    let stop = Stop { ground, line };
     Imported {
-        number,
-        line,
-        state,
+        left,
+        end: Err(stop),
     }
 }
 
-// What a line tells, appended.
-fn append_line(s: State, nand: &mut [u8], nor: &mut [u8], slots: u64, l: Line) -> Answer
-    ensures { returned result.number nand.new nor.new result.state
-        ≡ line_outcome slots (world nand.old nor.old s) (told_or l) }
+// What a record tells, appended.
+fn append_line(
+    s: State,
+    nand: &mut [u8],
+    nor: &mut [u8],
+    slots: u64,
+    l: Line,
+) -> Result<State, Ground>
+    ensures { returned (number_in result) nand.new nor.new (next_state s result)
+        ≡ line_outcome slots (world nand.old nor.old s) (some (told_by l)) }
 {
-    let good = l.good;
-    if !good {
-        let n = s.ground(Form::New, 0, nand.len(), nor.len(), slots);
-        return Answer {
-            number: pieces::bad_number(n),
-            state: s,
-        };
-    }
     let load = pieces::fitted(l.load);
     let note = pieces::note_of(l.member);
     s.append(nand, nor, slots, l.time, load, note)
@@ -61,9 +71,9 @@ fn import_lines(
     slots: u64,
     text: &[u8],
     from: usize,
-) -> Imported
+) -> Imported<State>
     requires { (2 ≤ from) × (from ≤ length text.now) }
-    ensures { imported result.number result.line (world nand.new nor.new result.state)
+    ensures { imported_by result.end (world nand.new nor.new result.left)
         ≡ import_lines (λ v. state_ground v slots 0) (λ v t. (append_told slots v t).number) (λ v t. (append_told slots v t).world) 2
         (lines_of (drop from text.now)) (world nand.old nor.old s) }
 {
@@ -71,31 +81,32 @@ fn import_lines(
     let mut at = from;
     let mut line: u64 = 2;
     while at < text.len() {
-        let l = csv_text::line_at(text, at);
-        let a = append_line(state, nand, nor, slots, l);
-        state = a.state;
-        let is_refused = a.number != 0;
-        if is_refused {
-            return ended(a.number, line, state);
+        let Some(l) = csv_text::line_at(text, at) else {
+            let first = state.ground(Form::New, 0, nand.len(), nor.len(), slots);
+            return stopped(pieces::bad_record(first), line, state);
+        };
+        match append_line(state, nand, nor, slots, l) {
+            Ok(next) => state = next,
+            Err(ground) => return stopped(ground, line, state),
         }
         at = l.next;
         line += 1;
     }
-    ended(0, 0, state)
+    Imported {
+        left: state,
+        end: Ok(()),
+    }
 }
 
-pub fn import(s: State, nand: &mut [u8], nor: &mut [u8], slots: u64, text: &[u8]) -> Imported
-    ensures { imported result.number result.line (world nand.new nor.new result.state)
+pub fn import(s: State, nand: &mut [u8], nor: &mut [u8], slots: u64, text: &[u8]) -> Imported<State>
+    ensures { imported_by result.end (world nand.new nor.new result.left)
         ≡ import_outcome (world nand.old nor.old s) slots text.now }
 {
-    let n = s.ground(Form::New, 0, nand.len(), nor.len(), slots);
-    if n != 0 {
-        return ended(n, 0, s);
+    if let Err(ground) = s.ground(Form::New, 0, nand.len(), nor.len(), slots) {
+        return stopped(ground, 0, s);
     }
-    let h = csv_text::heading_of(text);
-    let good = h.good;
-    if !good {
-        return ended(BAD_FORM, 1, s);
-    }
-    import_lines(s, nand, nor, slots, text, h.next)
+    let Some(from) = csv_text::heading_of(text) else {
+        return stopped(Ground::Text, 1, s);
+    };
+    import_lines(s, nand, nor, slots, text, from)
 }

@@ -1,12 +1,12 @@
 // What a line of an import needs, by value and over areas alike: its load and its note as an append takes them, and the number of a bad record.
 ghost use Rattle.std.specs.Prelude.{◌≡◌, true, false, cond, eqb};
+ghost use Rattle.grounds.specs.Numbers.{number_of, number_in};
 ghost use Rattle.lift.specs.Limits.{load_ok};
 ghost use Rattle.import.specs.Call.{note_of};
 
+use grounds::Ground;
 use lift::NOTE_BYTES;
 
-// A header or record against the form.
-pub const BAD_FORM: u8 = 18;
 // The limits of a load, as wide as a record's digits can say it.
 const LEAST: i64 = lift::LOAD_MIN as i64;
 
@@ -31,12 +31,12 @@ pub fn note_of(member: u32) -> [u8; NOTE_BYTES]
     note
 }
 
-// The number of a bad record, n being that of grounds 1 to 3.
-pub fn bad_number(n: u8) -> u8
-    ensures { result ≡ cond (eqb n 0) 18 n }
+// The ground of a bad record: grounds 1 to 3 come first.
+pub fn bad_record(first: Result<(), Ground>) -> Ground
+    ensures { number_of result ≡ cond (eqb (number_in first) 0) 18 (number_in first) }
 {
-    if n == 0 {
-        return BAD_FORM;
+    match first {
+        Ok(()) => Ground::Text,
+        Err(g) => g,
     }
-    n
 }

@@ -8,7 +8,6 @@ ghost use Rattle.flash.specs.Chip.{erased_page, programmed, nor_width, slot_widt
 ghost use Rattle.bloom.specs.Bloom.{empty_section};
 ghost use Rattle.codec.specs.Area.{part, splice};
 ghost use Rattle.codec.specs.Number.{number_at};
-ghost use Rattle.lift.specs.Record.{record_bytes, record_width};
 ghost use Rattle.state_bytes.specs.StateBytes.{state_bytes, state_in, loads_from, area_length};
 ghost use Rattle.state_bytes.specs.Inner.Fields.{counters_of, span_of};
 ghost use Rattle.in_place.specs.Inner.WithLift.{with_lift, nand_after, nor_after};
@@ -25,14 +24,11 @@ fn counters_after(b: &[u8], time: u64, buckets: u8) -> Counters
     ensures { (load : ℤ) (page section : List ℕ) → result
         ≡ counters_of (state_given (state_in b.now) time load time buckets page section) }
 {
-    let oldest = codec::get_u32(b, pieces::OLDEST_AT);
-    let current = codec::get_u32(b, pieces::CURRENT_AT);
-    let count = codec::get_u16(b, pieces::COUNT_AT);
     Counters {
-        oldest: oldest,
-        current: current,
-        count: count + 1,
-        buckets: buckets,
+        oldest: codec::get_u32(b, pieces::OLDEST_AT),
+        current: codec::get_u32(b, pieces::CURRENT_AT),
+        count: codec::get_u16(b, pieces::COUNT_AT) + 1,
+        buckets,
         next: time,
     }
 }
@@ -47,23 +43,11 @@ fn span_after(b: &[u8], time: u64, load: i32) -> Span
     let start = codec::get_u64(b, pieces::START_AT);
     let low = loads::load_at(b, pieces::LOW_AT);
     let high = loads::load_at(b, pieces::HIGH_AT);
-    let first = append_parts::start_after(count, start, time);
-    let lowest = bounds::low_after(count, low, load);
-    let highest = bounds::high_after(count, high, load);
     Span {
-        start: first,
-        low: lowest,
-        high: highest,
+        start: append_parts::start_after(count, start, time),
+        low: bounds::low_after(count, low, load),
+        high: bounds::high_after(count, high, load),
     }
-}
-
-fn put_record(b: &mut [u8], at: usize, time: u64, code: u32, note: [u8; NOTE_BYTES])
-    requires { at + record_width ≤ length b.old }
-    ensures { b.new ≡ splice b.old at (record_bytes time code note) }
-{
-    codec::put_u64(b, at, time);
-    codec::put_u32(b, at + lift::CODE_AT, code);
-    codec::copy(b, at + lift::NOTE_AT, &note);
 }
 
 // A full page goes to NAND, and the page buffer is blank.
@@ -79,9 +63,7 @@ fn flush_page(b: &mut [u8], nand: &mut [u8], slot: usize, count: u16)
         return;
     }
     let to = flash::page_at(slot, Page(n / lift::LIFTS_PER_PAGE));
-    let a: usize = pieces::PAGE_AT;
-    let e: usize = pieces::BLOOM_AT;
-    codec::copy(nand, to, &b[a..e]);
+    codec::copy(nand, to, &b[pieces::PAGE_AT..pieces::BLOOM_AT]);
     codec::fill(b, pieces::PAGE_AT, flash::PAGE_BYTES, 255);
 }
 
@@ -98,9 +80,7 @@ fn flush_section(b: &mut [u8], nor: &mut [u8], count: u16)
         return;
     }
     let to = flash::TREE_BYTES + n / bloom::LIFTS_PER_SECTION * bloom::SECTION_BYTES;
-    let a: usize = pieces::BLOOM_AT;
-    let e: usize = pieces::START_AT;
-    codec::copy(nor, to, &b[a..e]);
+    codec::copy(nor, to, &b[pieces::BLOOM_AT..pieces::START_AT]);
     codec::fill(b, pieces::BLOOM_AT, bloom::SECTION_BYTES, 0);
 }
 
@@ -129,7 +109,7 @@ pub fn put_lift(
     let c = counters_after(b, time, buckets);
     let s = span_after(b, time, load);
     let at = pieces::PAGE_AT + (n as usize) % lift::LIFTS_PER_PAGE * lift::RECORD_BYTES;
-    put_record(b, at, time, code, note);
+    append_parts::put_record(b, at, time, code, note);
     flush_page(b, nand, slot, n);
     bloom::note_at(b, pieces::BLOOM_AT, code);
     flush_section(b, nor, n);

@@ -1,21 +1,19 @@
 -- The lifts of the first log, one by one and segment by segment: each leads to where the pass stands next. Assumes nothing.
+use Rattle.std.specs.Prelude.{Some, None}
+use Rattle.std.specs.Prelude.{Option as Maybe}
 use mathlib.Core.Path.{◌≡◌, refl, sym, ap, ◌∙◌}
-use mathlib.Core.Bool.{Bool, true, false, cond}
-use mathlib.Core.Option.{none}
+use mathlib.Core.Bool.{Bool, cond}
 use mathlib.Core.List.{List, [], ◌∷◌, ◌++◌, map}
-use Prim.Native.Nat.{ℕ, ◌+◌, ◌-◌, ◌*◌, ◌≤◌, ◌<◌}
+use Prim.Native.Nat.{ℕ, ◌+◌, ◌*◌, ◌≤◌, ◌<◌}
 use native.Mathlib.Omega.{arith}
 use lib.Dec.{ltb}
 use lib.ListN.{length, length-map}
 use borrow.Author.Tests.{eq-eqb, ne_eqb}
 use Rattle.codec.specs.Area.{splice}
 use Rattle.bitset.specs.declared.Bits.{Bits}
-use Rattle.bitset.specs.declared.Next.{Next}
-use Rattle.bitset.specs.Inner.Words.{members, Below}
-use Rattle.bitset.specs.Inner.Emptying.{next_of}
+use Rattle.bitset.specs.Inner.Words.{Below}
 use Rattle.lift.specs.Record.{member_at}
 use Rattle.visit.specs.declared.Log.{Log}
-use Rattle.visit.proofs.Emptying.{emptied_more, emptied_all, emptied_below}
 use Rattle.supersets.specs.Pairs.{pair_with, joins}
 use Rattle.whole_log.specs.Inner.Held.{row_at, Room}
 use Rattle.joining.specs.declared.Joining.{Joining}
@@ -33,17 +31,17 @@ list_append rising rows [] ys s = refl
 list_append rising rows (x ∷ xs) ys s = list_append rising rows xs ys (join_one rising rows x s)
 
 -- there is room as before
-pub room_kept : (g : Log) (way sets new : List ℕ) → Room g way sets → length new ≡ length sets → Room g way new
+pub room_kept : (g : Log) (way : List ℕ) (sets new : List Bits) → Room g way sets → length new ≡ length sets → Room g way new
 room_kept g way sets new r e = record { slots_most_lem = r.slots_most_lem; ways = r.ways; words = omega (arith, r.words) }
 
 -- from a later segment on
-pub readable_on : (nand page : List ℕ) (g : Log) (way free : List ℕ) (from at : ℕ) → ReadableFrom nand page g way free from → from ≤ at → at ≤ g.slots
+pub readable_on : (nand page : List ℕ) (g : Log) (way : List ℕ) (free : List Bits) (from at : ℕ) → ReadableFrom nand page g way free from → from ≤ at → at ≤ g.slots
     → ReadableFrom nand page g way free at
 readable_on nand page g way free from at r l m = record { from_most = m; each = λ i a b. r.each i (omega arith) b }
 
 module _ (nand page : List ℕ) (g : Log) (way : List ℕ) (rising : Bool) (rows : ℕ) (a : List ℕ) where
   -- a lift of no member stands alone
-  pub lift_nobody : (free area : List ℕ) (j : Joining) → member_at a 0 ≡ 0 → ReadableFrom nand page g way free j.from
+  pub lift_nobody : (free : List Bits) (area : List ℕ) (j : Joining) → member_at a 0 ≡ 0 → ReadableFrom nand page g way free j.from
       → JoinsOn nand page g way rising rows (a ∷ []) free area j free area j
   unfolding join_list join_one made_of free_after written_on
   lift_nobody free area j e r =
@@ -52,8 +50,8 @@ module _ (nand page : List ℕ) (g : Log) (way : List ℕ) (rising : Bool) (rows
       record { leads = rw (z, k); readable = r; few = omega arith }
 
   -- another one, whose look began at the first segment with free lifts
-  module _ (named : member_at a 0 ≡ 0 → ⊥) (s : Sought) (s_is : s ≡ sought_for rising a) (free new : List ℕ) (from at : ℕ)
-      (same : free_from nand page g way free at ≡ free_from nand page g way free from) (k : Taken)
+  module _ (named : member_at a 0 ≡ 0 → ⊥) (s : Sought) (s_is : s ≡ sought_for rising a) (free new : List Bits) (from at : ℕ)
+      (same : free_from nand page g way free at ≡ free_from nand page g way free from) (k : Maybe Taken)
       (takes : Takes nand page g way s free new at k) where
     left : free_from nand page g way new at ≡ free_after rising a (free_from nand page g way free from)
     unfolding free_after
@@ -67,7 +65,7 @@ module _ (nand page : List ℕ) (g : Log) (way : List ℕ) (rising : Bool) (rows
     made = rw (ne_eqb (member_at a 0) 0 named) (ap (pair_with joins a) (sym taken))
 
     -- none fits
-    pub lift_alone : (area : List ℕ) (count : ℕ) → k.found ≡ false
+    pub lift_alone : (area : List ℕ) (count : ℕ) → k ≡ None
         → JoinsOn nand page g way rising rows (a ∷ []) free area (record { from = from; count = count }) new area (record { from = at; count = count })
     unfolding join_list join_one written_on
     lift_alone area count e =
@@ -76,12 +74,12 @@ module _ (nand page : List ℕ) (g : Log) (way : List ℕ) (rising : Bool) (rows
         record { leads = rw (m, c, left); readable = takes.readable; few = omega arith }
 
     -- one is joined
-    pub lift_joined : (area new_area : List ℕ) (count : ℕ) → k.found ≡ true
-        → new_area ≡ cond (ltb count rows) (splice area (count * 64) (a ++ row_at nand page g way k.segment k.at)) area
+    pub lift_joined : (area new_area : List ℕ) (count : ℕ) (t : Taken) → k ≡ Some t
+        → new_area ≡ cond (ltb count rows) (splice area (count * 64) (a ++ row_at nand page g way t.segment t.at)) area
         → JoinsOn nand page g way rising rows (a ∷ []) free area (record { from = from; count = count }) new new_area (record { from = at; count = count + 1 })
     unfolding join_list join_one written_on
-    lift_joined area new_area count e w =
-        let m : made_of rising a (free_from nand page g way free from) ≡ (a, row_at nand page g way k.segment k.at) ∷ [] = made ∙ rw e in
+    lift_joined area new_area count t e w =
+        let m : made_of rising a (free_from nand page g way free from) ≡ (a, row_at nand page g way t.segment t.at) ∷ [] = made ∙ rw e in
         record { leads = rw (m, left, w); readable = takes.readable; few = omega arith }
 
 -- ---- the lifts of one set
@@ -90,39 +88,37 @@ module _ (nand page : List ℕ) (g : Log) (way : List ℕ) (rising : Bool) (rows
   abbrev goes : List ℕ → Standing → Standing
   goes ps s = join_list rising rows (map row ps) s
 
-  -- those of the rest are left to do
-  pub record SetGoes (free₀ area₀ : List ℕ) (j₀ : Joining) (rest₀ : Bits) (free area : List ℕ) (j : Joining) (rest : Bits) : Type 0 where
-    pub leads : goes (members rest.words) (standing nand page g way free j area)
-        ≡ goes (members rest₀.words) (standing nand page g way free₀ j₀ area₀)
+  -- those of the places left are to do
+  pub record SetGoes (free₀ : List Bits) (area₀ : List ℕ) (j₀ : Joining) (all : List ℕ) (free : List Bits) (area : List ℕ) (j : Joining) (left : List ℕ) : Type 0 where
+    pub leads : goes left (standing nand page g way free j area) ≡ goes all (standing nand page g way free₀ j₀ area₀)
     pub readable : ReadableFrom nand page g way free j.from
-    pub below : Below count (members rest.words)
-    pub few : j.count + length (members rest.words) ≤ j₀.count + length (members rest₀.words)
+    pub below : Below count left
+    pub few : j.count + length left ≤ j₀.count + length all
     pub area_long : length area ≡ length area₀
     pub free_long : length free ≡ length free₀
 
-  module _ (free₀ area₀ : List ℕ) (j₀ : Joining) (rest₀ : Bits) (free area : List ℕ) (j : Joining) (rest : Bits)
-      (i : SetGoes free₀ area₀ j₀ rest₀ free area j rest) (n : Next) (is : n ≡ next_of rest) where
-    pub set_below : n.found ≡ true → n.at < count
-    set_below e = (emptied_below rest n is count e i.below).0
-
-    pub set_over : n.found ≡ false → JoinsOn nand page g way rising rows (map row (members rest₀.words)) free₀ area₀ j₀ free area j
+  module _ (free₀ : List Bits) (area₀ : List ℕ) (j₀ : Joining) (all : List ℕ) (free : List Bits) (area : List ℕ) (j : Joining) (left : List ℕ)
+      (i : SetGoes free₀ area₀ j₀ all free area j left) where
+    pub set_over : left ≡ [] → JoinsOn nand page g way rising rows (map row all) free₀ area₀ j₀ free area j
     unfolding join_list
-    set_over e =
-        let z = emptied_all rest n is e in
-        let l = length-map (members rest₀.words) row in
+    set_over z =
+        let l = length-map all row in
         record { leads = rw z at i.leads; readable = i.readable; few = omega (arith, i.few) }
 
-    pub set_more : n.found ≡ true → (new_free new_area : List ℕ) (next : Joining) → length new_area ≡ length area → length new_free ≡ length free
-        → JoinsOn nand page g way rising rows (row n.at ∷ []) free area j new_free new_area next
-        → SetGoes free₀ area₀ j₀ rest₀ new_free new_area next n.rest
-    unfolding join_list
-    set_more e new_free new_area next la lf o =
-        let m = emptied_more rest n is e in
-        record {
-          leads = ap (goes (members n.rest.words)) o.leads ∙ rw m at i.leads;
-          readable = o.readable;
-          below = (emptied_below rest n is count e i.below).1;
-          few = omega (arith, o.few, i.few, ap (λ (ps : List ℕ). length ps) m);
-          area_long = la ∙ i.area_long;
-          free_long = lf ∙ i.free_long;
-        }
+    module _ (p : ℕ) (rest : List ℕ) (m : left ≡ p ∷ rest) where
+      pub set_below : p < count
+      set_below = (rw m at i.below).0
+
+      pub set_more : (new_free : List Bits) (new_area : List ℕ) (next : Joining) → length new_area ≡ length area → length new_free ≡ length free
+          → JoinsOn nand page g way rising rows (row p ∷ []) free area j new_free new_area next
+          → SetGoes free₀ area₀ j₀ all new_free new_area next rest
+      unfolding join_list
+      set_more new_free new_area next la lf o =
+          record {
+            leads = ap (goes rest) o.leads ∙ rw m at i.leads;
+            readable = o.readable;
+            below = (rw m at i.below).1;
+            few = omega (arith, o.few, i.few, ap (λ (ps : List ℕ). length ps) m);
+            area_long = la ∙ i.area_long;
+            free_long = lf ∙ i.free_long;
+          }

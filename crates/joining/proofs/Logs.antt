@@ -19,15 +19,15 @@ use Rattle.joining.proofs.Segments.{rows_step}
 use Rattle.joining.proofs.Lifts.{list_append}
 
 module _ (nand1 nor1 page1 : List ℕ) (g1 : Log) (q : Query) (way1 : List ℕ) (low1 : ℕ) (nand page : List ℕ) (g : Log) (way : List ℕ) (rising : Bool)
-    (rows : ℕ) (free₀ area₀ : List ℕ) (j₀ : Joining) where
+    (rows : ℕ) (free₀ : List Bits) (area₀ : List ℕ) (j₀ : Joining) where
   abbrev left : ℕ → List (List ℕ)
   left i = lent_rows nand1 nor1 page1 g1 q way1 i
 
-  abbrev now : List ℕ → Joining → List ℕ → Standing
+  abbrev now : List Bits → Joining → List ℕ → Standing
   now free j area = standing nand page g way free j area
 
   -- the segments from i on are left to do
-  pub record LogGoes (free area : List ℕ) (j : Joining) (i : ℕ) : Type 0 where
+  pub record LogGoes (free : List Bits) (area : List ℕ) (j : Joining) (i : ℕ) : Type 0 where
     pub leads : join_list rising rows (left i) (now free j area) ≡ join_list rising rows (left low1) (now free₀ j₀ area₀)
     pub readable : ReadableFrom nand page g way free j.from
     pub least : low1 ≤ i
@@ -36,7 +36,7 @@ module _ (nand1 nor1 page1 : List ℕ) (g1 : Log) (q : Query) (way1 : List ℕ) 
     pub area_long : length area ≡ length area₀
     pub free_long : length free ≡ length free₀
 
-  module _ (free area : List ℕ) (j : Joining) (i : ℕ) (goes : LogGoes free area j i) where
+  module _ (free : List Bits) (area : List ℕ) (j : Joining) (i : ℕ) (goes : LogGoes free area j i) where
     pub log_over : g1.slots < i → (j.count ≡ (join_list rising rows (left low1) (now free₀ j₀ area₀)).count)
         × (area ≡ (join_list rising rows (left low1) (now free₀ j₀ area₀)).area)
     unfolding join_list rows_on
@@ -47,7 +47,7 @@ module _ (nand1 nor1 page1 : List ℕ) (g1 : Log) (q : Query) (way1 : List ℕ) 
 
     -- one segment, whose slot, records and set were read
     pub log_more : i ≤ g1.slots → (lifts : List ℕ) → lifts ≡ lifts_at nand1 (get_or way1 i 0) → (at : Records) → at ≡ records_at g1 i → (set : Bits)
-        → set.words ≡ set_for nand1 nor1 page1 g1 q way1 i → (new_free new_area : List ℕ) (next : Joining) → length new_area ≡ length area
+        → set.words ≡ set_for nand1 nor1 page1 g1 q way1 i → (new_free : List Bits) (new_area : List ℕ) (next : Joining) → length new_area ≡ length area
         → length new_free ≡ length free
         → JoinsOn nand page g way rising rows (map (record_in lifts page1 at.first) (members set.words)) free area j new_free new_area next
         → LogGoes new_free new_area next (i + 1)

@@ -3,6 +3,7 @@ use mathlib.Core.Path.{◌≡◌, refl, sym, ◌∙◌}
 use mathlib.Core.List.{List, [], ◌++◌, map, append_assoc}
 use Prim.Native.Nat.{ℕ, zero, suc, ◌+◌, ◌-◌, ◌≤◌, ◌<◌}
 use native.Mathlib.Omega.{arith}
+use Rattle.bitset.specs.declared.Bits.{Bits}
 use Rattle.whole_log.specs.Inner.Held.{rows_on, places_in}
 
 -- the first segment, and the others
@@ -33,12 +34,12 @@ rows_same row f g (suc n) i h =
 
 -- ---- segments without a free lift
 
-pub record Passed (free : List ℕ) (from top i : ℕ) : Type 0 where
+pub record Passed (free : List Bits) (from top i : ℕ) : Type 0 where
   pub least : from ≤ i
   pub most : i ≤ top
   pub same : (row : ℕ → ℕ → List ℕ) → rows_on row (places_in free) i (top + 1 - i) ≡ rows_on row (places_in free) from (top + 1 - from)
 
-pub passed_more : (free : List ℕ) (from top i : ℕ) → Passed free from top i → i < top → places_in free i ≡ [] → Passed free from top (i + 1)
+pub passed_more : (free : List Bits) (from top i : ℕ) → Passed free from top i → i < top → places_in free i ≡ [] → Passed free from top (i + 1)
 passed_more free from top i p h e =
     record {
       least = omega (arith, p.least);

@@ -1,28 +1,28 @@
 -- The first free lift that fits, from segment to segment: the look through each leads to the look through all. Assumes nothing.
+use Rattle.std.specs.Prelude.{IfSome, Some, None}
+use Rattle.std.specs.Prelude.{Option as Maybe}
 use mathlib.Core.Path.{◌≡◌, refl, sym, ap, ap₂, ◌∙◌}
 use mathlib.Core.Bool.{Bool, true, false, cond}
 use mathlib.Core.Option.{Option, none, some}
 use mathlib.Core.List.{List, [], ◌++◌, map, append_assoc, append-nil}
-use Prim.Native.Nat.{ℕ, ◌+◌, ◌-◌, ◌*◌, ◌≤◌, ◌<◌}
-use native.Mathlib.Decide.{ℕ_discrete, dec_lt}
+use Prim.Native.Nat.{ℕ, ◌+◌, ◌-◌, ◌≤◌, ◌<◌}
+use native.Mathlib.Decide.{ℕ_discrete}
 use native.Mathlib.Omega.{arith}
-use lib.ListN.{length, get_or}
-use Rattle.codec.specs.Area.{splice}
-use Rattle.codec.proofs.Areas.{length_splice}
+use lib.ListN.{length, get_or, set, length-set}
+use lib.Seq.{get_or-set_same, get_or-set_other}
 use Rattle.bitset.specs.declared.Bits.{Bits}
 use Rattle.bitset.specs.Inner.Words.{members, Below}
 use Rattle.lift.proofs.Rows.{time_of_record, member_of_record}
 use Rattle.sweep.specs.declared.Records.{Records}
 use Rattle.visit.specs.declared.Log.{Log}
 use Rattle.visit.proofs.Emptying.{recorded_at}
-use Rattle.found.proofs.Counts.{never}
-use Rattle.whole_log.specs.Inner.Held.{rows_on, set_in, places_in, lifts_at, records_at, row_at, Room, Readable}
-use Rattle.whole_log.proofs.SideBySide.{set_new, set_kept, set_before}
+use Rattle.whole_log.specs.Inner.Held.{rows_on, no_set, set_in, places_in, lifts_at, records_at, row_at, Room, Readable}
 use Rattle.joining.specs.declared.look.Fit.{Fit}
-use Rattle.joining.specs.declared.look.Looking.{Looking}
+use Rattle.joining.specs.declared.look.Look.{Look}
 use Rattle.joining.specs.declared.look.Sought.{Sought}
-use Rattle.joining.specs.Inner.Looking.{fit_of, fit_row, fit_in, ends, taken_of, left_of, taken_at, Looked}
-use Rattle.joining.specs.Inner.Passing.{free_from, ReadableFrom, Takes}
+use Rattle.joining.specs.declared.look.Taken.{Taken}
+use Rattle.joining.specs.Inner.Looking.{fit_of, fit_row, fit_in, ends, taken_of, left_of, Looked}
+use Rattle.joining.specs.Inner.Passing.{free_from, ReadableFrom, taken_row, TakenFrom, Takes}
 use Rattle.joining.proofs.Looks.{left_append, taken_append, mapped, left_rows, taken_rows, ends_rows, left_below, taken_below}
 use Rattle.joining.proofs.Segments.{rows_step, rows_split, rows_same}
 
@@ -31,7 +31,7 @@ module _ (nand page : List ℕ) (g : Log) (way : List ℕ) (s : Sought) where
   row = row_at nand page g way
 
   -- what the lift at a place of segment i is
-  abbrev fit_at : ℕ → ℕ → Fit
+  abbrev pub fit_at : ℕ → ℕ → Fit
   fit_at i = fit_in s (lifts_at nand (get_or way i 0)) page (records_at g i).first
 
   abbrev left_in : List (List ℕ) → List (List ℕ)
@@ -42,7 +42,7 @@ module _ (nand page : List ℕ) (g : Log) (way : List ℕ) (s : Sought) where
 
   -- ---- one segment
 
-  module _ (free : List ℕ) (i : ℕ) (read : Readable nand page g way free i) where
+  module _ (free : List Bits) (i : ℕ) (read : Readable nand page g way free i) where
     same_fit : (p : ℕ) → p < (records_at g i).count → fit_row s (row i p) ≡ fit_at i p
     same_fit p h =
         let r = recorded_at _ page (records_at g i) p read.recorded h in
@@ -58,8 +58,8 @@ module _ (nand page : List ℕ) (g : Log) (way : List ℕ) (s : Sought) where
     segment_ends = ends_rows s.rising _ (row i) (fit_row s) (fit_at i) same_fit (places_in free i) read.below
 
   -- a look through the set of segment i, where its slot, its records and its set were read
-  pub segment_looked : (free : List ℕ) (i : ℕ) (lifts : List ℕ) → lifts ≡ lifts_at nand (get_or way i 0) → (at : Records) → at ≡ records_at g i → (set : Bits)
-      → set.words ≡ set_in free i → (k : Looking)
+  pub segment_looked : (free : List Bits) (i : ℕ) (lifts : List ℕ) → lifts ≡ lifts_at nand (get_or way i 0) → (at : Records) → at ≡ records_at g i → (set : Bits)
+      → set.words ≡ set_in free i → (k : Look)
       → Looked s.rising (fit_in s lifts page at.first) (left_of s.rising (fit_in s lifts page at.first) (members set.words))
       (taken_of s.rising (fit_in s lifts page at.first) (members set.words)) (ends s.rising (fit_in s lifts page at.first) (members set.words)) k
       → Looked s.rising (fit_at i) (left_of s.rising (fit_at i) (places_in free i)) (taken_of s.rising (fit_at i) (places_in free i))
@@ -68,12 +68,12 @@ module _ (nand page : List ℕ) (g : Log) (way : List ℕ) (s : Sought) where
 
   -- ---- from segment to segment
 
-  module _ (first : List ℕ) (from : ℕ) where
+  module _ (first : List Bits) (from : ℕ) where
     abbrev all : ℕ → List (List ℕ)
     all i = free_from nand page g way first i
 
     -- the segments before i are looked through, the others are as they were
-    pub record Taking (free : List ℕ) (i : ℕ) : Type 0 where
+    pub record Taking (free : List Bits) (i : ℕ) : Type 0 where
       pub least : from ≤ i
       pub most : i ≤ g.slots + 1
       pub long : length free ≡ length first
@@ -97,8 +97,8 @@ module _ (nand page : List ℕ) (g : Log) (way : List ℕ) (s : Sought) where
         }
 
     -- all are looked through
-    pub taking_over : (free : List ℕ) (i : ℕ) → Taking free i → g.slots < i → ReadableFrom nand page g way first from
-        → Takes nand page g way s first free from (record { found = false; segment = 0; at = 0 })
+    pub taking_over : (free : List Bits) (i : ℕ) → Taking free i → g.slots < i → ReadableFrom nand page g way first from
+        → Takes nand page g way s first free from None
     unfolding rows_on left_of taken_of
     taking_over free i t h r =
         let z : g.slots + 1 - i ≡ 0 = omega arith in
@@ -107,52 +107,46 @@ module _ (nand page : List ℕ) (g : Log) (way : List ℕ) (s : Sought) where
           taken_is = sym (rw z at t.taken_is);
           left_is = sym (rw e at (rw z at t.left_is) ∙ append-nil (free_from nand page g way free from));
           readable = record { from_most = r.from_most; each = t.each };
-          segment_least = λ h. never (sym h);
-          segment_most_lem = λ h. never (sym h);
-          below = λ h. never (sym h);
+          place = tt;
         }
 
     -- segment i, of which these places are left
-    module _ (room : Room g way first) (free : List ℕ) (i : ℕ) (t : Taking free i) (h : i ≤ g.slots) (ws : List ℕ) (n : length ws ≡ 5)
-        (left : members ws ≡ left_of s.rising (fit_at i) (places_in free i)) where
-      abbrev new : List ℕ
-      new = splice free (5 * i) ws
+    module _ (room : Room g way first) (free : List Bits) (i : ℕ) (t : Taking free i) (h : i ≤ g.slots) (b : Bits)
+        (left : members b.words ≡ left_of s.rising (fit_at i) (places_in free i)) where
+      abbrev new : List Bits
+      new = set free i b
 
-      fits : 5 * i + 5 ≤ length free
+      fits : i < length free
       fits = omega (arith, t.long, room.words)
 
       read : Readable nand page g way free i
       read = t.each i t.least h
 
-      here : places_in new i ≡ members ws
-      here = ap members (set_new free i ws n fits)
+      here : places_in new i ≡ members b.words
+      here = ap (λ (x : Bits). members x.words) (get_or-set_same free i b no_set fits)
+
+      -- the others are as they were
+      kept : (k : ℕ) → (k ≡ i → ⊥) → set_in new k ≡ set_in free k
+      kept k d = ap (λ (x : Bits). x.words) (get_or-set_other free i k b no_set d)
 
       long : length new ≡ length first
-      long = length_splice free (5 * i) ws (omega (arith, fits)) ∙ t.long
+      long = length-set free i b ∙ t.long
 
       behind : (k : ℕ) → i + 1 ≤ k → k ≤ g.slots → set_in new k ≡ set_in first k
-      behind k a b = set_kept free i ws n fits k (omega arith) (omega (arith, t.long, room.words)) ∙ t.same k (omega arith) b
+      behind k a l = kept k (λ e. omega arith) ∙ t.same k (omega arith) l
 
       before : rows_on row (places_in new) from (i - from) ≡ rows_on row (places_in free) from (i - from)
       before =
           rows_same row (places_in new) (places_in free) (i - from) from
-          (λ k a b. ap members (set_before free i ws n fits k (omega (arith, t.least))))
-
-      -- the places of each are left as they were, but for segment i
-      places : (k : ℕ) → k ≤ g.slots → (k ≡ i → ⊥) → places_in new k ≡ places_in free k
-      places k b d = ap members (go (dec_lt k i))
-        where
-          go : Dec (k < i) → set_in new k ≡ set_in free k
-          go (yes l) = set_before free i ws n fits k l
-          go (no f) = set_kept free i ws n fits k (omega arith) (omega (arith, t.long, room.words))
+          (λ k a l. ap members (kept k (λ e. omega (arith, t.least))))
 
       each : (k : ℕ) → from ≤ k → k ≤ g.slots → Readable nand page g way new k
-      each k a b =
-          record { inside = (t.each k a b).inside; recorded = (t.each k a b).recorded; below = go (ℕ_discrete k i) }
+      each k a l =
+          record { inside = (t.each k a l).inside; recorded = (t.each k a l).recorded; below = go (ℕ_discrete k i) }
         where
           go : Dec (k ≡ i) → Below (records_at g k).count (places_in new k)
           go (yes e) = rw (e, here, left) (left_below s.rising (fit_at i) _ (places_in free i) read.below)
-          go (no d) = rw (places k b d) (t.each k a b).below
+          go (no d) = rw (ap members (kept k d)) (t.each k a l).below
 
       -- the rows of segment i, before and after
       rows_now : map (row i) (places_in new i) ≡ left_in (map (row i) (places_in first i))
@@ -170,17 +164,17 @@ module _ (nand page : List ℕ) (g : Log) (way : List ℕ) (s : Sought) where
       now_taken = ap (λ (ws' : List ℕ). taken_in (map (row i) (members ws'))) (sym (t.same i (omega arith) h)) ∙ segment_taken free i read
 
       -- what is left of the segments from i on, and what is taken
-      left_all : (b : Bool) → ends s.rising (fit_at i) (places_in free i) ≡ b
-          → left_in (all i) ≡ map (row i) (places_in new i) ++ cond b (all (i + 1)) (left_in (all (i + 1)))
-      left_all b e =
+      left_all : (x : Bool) → ends s.rising (fit_at i) (places_in free i) ≡ x
+          → left_in (all i) ≡ map (row i) (places_in new i) ++ cond x (all (i + 1)) (left_in (all (i + 1)))
+      left_all x e =
           ap left_in all_step ∙ left_append s.rising (fit_row s) (map (row i) (places_in first i)) (all (i + 1))
-          ∙ ap₂ ◌++◌ (sym rows_now) (ap (λ (x : Bool). cond x (all (i + 1)) (left_in (all (i + 1)))) (now_ends ∙ e))
+          ∙ ap₂ ◌++◌ (sym rows_now) (ap (λ (y : Bool). cond y (all (i + 1)) (left_in (all (i + 1)))) (now_ends ∙ e))
 
-      taken_all : (b : Bool) → ends s.rising (fit_at i) (places_in free i) ≡ b
-          → taken_in (all i) ≡ cond b (mapped (row i) (taken_of s.rising (fit_at i) (places_in free i))) (taken_in (all (i + 1)))
-      taken_all b e =
+      taken_all : (x : Bool) → ends s.rising (fit_at i) (places_in free i) ≡ x
+          → taken_in (all i) ≡ cond x (mapped (row i) (taken_of s.rising (fit_at i) (places_in free i))) (taken_in (all (i + 1)))
+      taken_all x e =
           ap taken_in all_step ∙ taken_append s.rising (fit_row s) (map (row i) (places_in first i)) (all (i + 1))
-          ∙ ap₂ (λ (x : Bool) (o : Option (List ℕ)). cond x o (taken_in (all (i + 1)))) (now_ends ∙ e) now_taken
+          ∙ ap₂ (λ (y : Bool) (o : Option (List ℕ)). cond y o (taken_in (all (i + 1)))) (now_ends ∙ e) now_taken
 
       -- the look goes on
       pub taking_on : ends s.rising (fit_at i) (places_in free i) ≡ false → Taking new (i + 1)
@@ -205,12 +199,12 @@ module _ (nand page : List ℕ) (g : Log) (way : List ℕ) (s : Sought) where
           }
 
       -- it ends here
-      pub taking_ends : ends s.rising (fit_at i) (places_in free i) ≡ true → ReadableFrom nand page g way first from → (found : Bool) (at : ℕ)
-          → taken_at found at ≡ taken_of s.rising (fit_at i) (places_in free i)
-          → Takes nand page g way s first new from (record { found = found; segment = i; at = at })
-      taking_ends e r found at k =
+      ended : ends s.rising (fit_at i) (places_in free i) ≡ true → ReadableFrom nand page g way first from → (k : Maybe Taken)
+          → taken_row nand page g way k ≡ mapped (row i) (taken_of s.rising (fit_at i) (places_in free i)) → IfSome k (TakenFrom g from)
+          → Takes nand page g way s first new from k
+      ended e r k k_is place =
           record {
-            taken_is = rows_taken found k ∙ sym (t.taken_is ∙ taken_all true e);
+            taken_is = k_is ∙ sym (t.taken_is ∙ taken_all true e);
             left_is =
                 ap (rows_on row (places_in new) from) m ∙ rows_split row (places_in new) (i - from) from (g.slots + 1 - i)
                 ∙ ap₂ ◌++◌ before (ap (λ (k : ℕ). rows_on row (places_in new) k (g.slots + 1 - i)) f
@@ -218,9 +212,7 @@ module _ (nand page : List ℕ) (g : Log) (way : List ℕ) (s : Sought) where
                 ∙ ap (λ (l : List (List ℕ)). map (row i) (places_in new i) ++ l) others ∙ sym (left_all true e))
                 ∙ sym t.left_is;
             readable = record { from_most = r.from_most; each = each };
-            segment_least = λ h. t.least;
-            segment_most_lem = λ y. h;
-            below = λ y. taken_below s.rising (fit_at i) _ (places_in free i) read.below at (sym k ∙ rw y);
+            place = place;
           }
         where
           m : g.slots + 1 - from ≡ (i - from) + (g.slots + 1 - i)
@@ -234,7 +226,13 @@ module _ (nand page : List ℕ) (g : Log) (way : List ℕ) (s : Sought) where
               rows_same row (places_in new) (places_in first) (g.slots + 1 - (i + 1)) (i + 1)
               (λ k a b. ap members (behind k a (omega arith)))
 
-          rows_taken : (b : Bool) → taken_at b at ≡ taken_of s.rising (fit_at i) (places_in free i)
-              → cond b (some (row i at)) none ≡ mapped (row i) (taken_of s.rising (fit_at i) (places_in free i))
-          rows_taken true k = ap (mapped (row i)) k
-          rows_taken false k = ap (mapped (row i)) k
+      pub taking_found : ends s.rising (fit_at i) (places_in free i) ≡ true → ReadableFrom nand page g way first from → (at : ℕ)
+          → some at ≡ taken_of s.rising (fit_at i) (places_in free i)
+          → Takes nand page g way s first new from (Some (record { segment = i; at = at }))
+      taking_found e r at k =
+          ended e r (Some (record { segment = i; at = at })) (ap (mapped (row i)) k)
+          (record { least = t.least; most = h; below = taken_below s.rising (fit_at i) _ (places_in free i) read.below at (sym k) })
+
+      pub taking_late : ends s.rising (fit_at i) (places_in free i) ≡ true → ReadableFrom nand page g way first from
+          → none ≡ taken_of s.rising (fit_at i) (places_in free i) → Takes nand page g way s first new from None
+      taking_late e r k = ended e r None (ap (mapped (row i)) k) tt

@@ -67,7 +67,7 @@ fn join_lift(
     page: &[u8],
     g: Log,
     way: &[u16],
-    free: &mut [u64],
+    free: &mut [Bits],
     rising: bool,
     j: Joining,
 ) -> Joining
@@ -91,15 +91,12 @@ fn join_lift(
         member,
         rising,
     };
-    let k = look::take(nand, page, g, way, free, from, s);
     let count = j.count;
-    let found = k.found;
-    if !found {
+    let Some(k) = look::take(nand, page, g, way, free, from, s) else {
         return Joining { from, count };
-    }
-    let i = k.segment;
-    let lifts2 = whole_log::lifts_of(nand, way[i]);
-    let at = whole_log::records_of(g, i);
+    };
+    let lifts2 = whole_log::lifts_of(nand, way[k.segment]);
+    let at = whole_log::records_of(g, k.segment);
     put_pair(
         area, rows, count, lifts, tail, first, p, lifts2, page, at.first, k.at,
     );
@@ -121,7 +118,7 @@ fn join_set(
     page: &[u8],
     g: Log,
     way: &[u16],
-    free: &mut [u64],
+    free: &mut [Bits],
     rising: bool,
     j0: Joining,
 ) -> Joining
@@ -133,19 +130,13 @@ fn join_set(
         (map (record_in lifts.now tail.now at.first) (members set.words))
         free.old area.old j0 free.new area.new result }
 {
-    let mut rest = set;
     let mut j = j0;
-    loop {
-        let n = rest.next();
-        let found = n.found;
-        if !found {
-            return j;
-        }
+    for p in set.places() {
         j = join_lift(
-            area, rows, lifts, tail, at.first, n.at, nand, page, g, way, free, rising, j,
+            area, rows, lifts, tail, at.first, p, nand, page, g, way, free, rising, j,
         );
-        rest = n.rest;
     }
+    j
 }
 
 // All lifts of the first log, from its oldest segment on; how many pairs there are.
@@ -163,7 +154,7 @@ pub fn join_all(
     page2: &[u8],
     g2: Log,
     way2: &[u16],
-    free: &mut [u64],
+    free: &mut [Bits],
     low2: usize,
     rising: bool,
 ) -> u64
@@ -180,16 +171,13 @@ pub fn join_all(
         from: low2,
         count: 0,
     };
-    let top = g1.slots as usize;
-    let mut i = low1;
-    while i <= top {
+    for i in low1..=g1.slots as usize {
         let set = whole_log::set_of(nand1, nor1, page1, g1, q, way1, i);
         let lifts = whole_log::lifts_of(nand1, way1[i]);
         let at = whole_log::records_of(g1, i);
         j = join_set(
             area, rows, lifts, page1, at, set, nand2, page2, g2, way2, free, rising, j,
         );
-        i += 1;
     }
     j.count
 }

@@ -1,17 +1,17 @@
 -- Each return of an append that keeps counts is what the definition gives there. The hypotheses are what the calls ensure and the tests show.
 -- Assumes nothing.
-use mathlib.Core.Path.{◌≡◌, refl, sym, ap, ◌∙◌}
+use mathlib.Core.Path.{◌≡◌, refl, sym, ap, subst, ◌∙◌}
 use mathlib.Core.Bool.{Bool, true, false, cond, not}
 use mathlib.Core.Logic.{◌⊎◌, inl, inr}
 use mathlib.Core.Option.{Option, none, some}
-use mathlib.Core.List.{List}
-use Prim.Native.Nat.{ℕ, ◌<◌}
+use mathlib.Core.List.{List, []}
+use Prim.Native.Nat.{ℕ, ◌≤◌, ◌<◌}
 use native.Mathlib.Decide.{ℕ_discrete}
 use native.Mathlib.Omega.{arith}
 use lib.Dec.{eqb, leb, ltb}
 use lib.IntN.{ℤ}
 use lib.ListN.{length}
-use borrow.Author.Tests.{ne_eqb}
+use borrow.Author.Tests.{ne_eqb, ltb-false}
 use Rattle.lift.specs.Limits.{stored, time_ok, load_ok}
 use Rattle.form.specs.declared.Form.TheVariants.{New}
 use Rattle.bounds.specs.Grounds.{ground, sooner, nand_bad, nor_bad, lift_ground}
@@ -20,12 +20,20 @@ use Rattle.counts.specs.Counts.{counts_broken, one_more}
 use Rattle.store.specs.declared.State.{State}
 use Rattle.store.specs.Bounds.{within_bounds}
 use Rattle.store.specs.World.{World, world}
-use Rattle.store.specs.Calls.{Outcome, plan_of, room_world, append_damage, append_unerased, append_ground, append_outcome}
-use Rattle.store.specs.Inner.Pieces.{entry_ground, later_ground, carried_out}
-use Rattle.store.proofs.Appended.{number_early, number_later}
+use Rattle.store.specs.Calls.{Outcome, plan_of, room_world, append_damage, append_unerased, append_ground, append_outcome, drops_first}
+use Rattle.store.specs.Inner.Pieces.{Suits, entry_ground, later_ground, carried_out}
+use Rattle.plate.specs.Total.{total}
+use Rattle.grow.specs.declared.Plan.{Plan}
+use Rattle.grow.specs.Inner.Meaning.{meaning}
+use Rattle.bounds.proofs.Within.{Liftable, lift_within}
+use Rattle.store.specs.declared.fields.Fields.{Fields}
+use Rattle.store.specs.Inner.Fields.{fields_of}
+use Rattle.store.proofs.Grounds.{Standing, standing}
+use Rattle.store.proofs.Appended.{number_early, number_later, Entered, entered}
 use Rattle.store.proofs.Plain.{append_carried}
 use Rattle.keeping.specs.Keeping.{Counted, counted, with_ground, is_lost, counts_shed, counts_appended, append_kept}
-use Rattle.keeping.proofs.Shedding.{lost_lift, kept_lift}
+use Rattle.keeping.specs.Inner.Shedding.{shed_if, Whole}
+use Rattle.keeping.proofs.Shedding.{lost_lift, kept_lift, shed_is}
 use Rattle.keeping.proofs.Numbers.{none_before, early_number, late_number, refuses, accepts}
 
 -- ---- the plain number: grounds 1 to 8, then 10 and 11
@@ -135,3 +143,35 @@ module _ (nand nor : List ℕ) (s : State) (slots time : ℕ) (load : ℤ) (note
           (ap (λ (o : Outcome). o.world) (append_carried w slots time load note m
           (m_is ∙ sym (plain_number ∙ rw passed.1)) p w' load f planned refl h))
           (kept_lift w slots load counts c (sym shed_here ∙ e) ∙ ap {B = Option (List ℕ)} some (sym k))
+
+-- ---- past grounds 1 to 8 and ground 3 of the counts
+
+pub record LetIn (nand nor : List ℕ) (s : State) (slots time : ℕ) (load : ℤ) (counts : List ℕ) : Type 0 where
+  pub few : total counts ≤ 1310720
+  pub entered : Entered s (length nand) (length nor) slots time load
+  pub stands : Standing s (length nand) (length nor) slots
+  pub lifts : Liftable time load s.next s.current
+
+pub let_in : (nand nor : List ℕ) (s : State) (slots time : ℕ) (load : ℤ) (counts : List ℕ) (g : ℕ)
+    → g ≡ entry_ground s (length nand) (length nor) slots time load → 0 ≡ with_ground 3 (counts_broken counts) g
+    → LetIn nand nor s slots time load counts
+let_in nand nor s slots time load counts g judged number =
+    let t = passed nand nor s slots time load [] counts g judged 0 number refl in
+    let e = entered s (length nand) (length nor) slots time load (sym judged ∙ t.1) in
+    record {
+      few = ltb-false 1310720 (total counts) t.0;
+      entered = e;
+      stands = standing s (length nand) (length nor) slots e.bounds;
+      lifts = lift_within time load s.next s.current e.lift;
+    }
+
+-- the counts after a forced drop, as the fields give them
+pub shed_of : (nand nor : List ℕ) (s : State) (slots : ℕ) → Standing s (length nand) (length nor) slots → Whole s → (p : Plan) (f : Fields)
+    → fields_of s ≡ f → Suits f.buckets f.count p → (counts : List ℕ) (d : Option (List ℕ))
+    → d ≡ shed_if (drops_first (room_world (world nand nor s) slots (meaning p)).state slots) nand slots f.oldest f.current f.count counts
+    → d ≡ counts_shed (room_world (world nand nor s) slots (meaning p)) slots counts
+shed_of nand nor s slots st whole p f same suits counts d e =
+    let here : Suits s.buckets s.count p = subst (λ (t : Fields). Suits t.buckets t.count p) (sym same) suits in
+    e
+    ∙ ap (λ (t : Fields). shed_if (drops_first (room_world (world nand nor s) slots (meaning p)).state slots) nand slots t.oldest t.current t.count counts) (sym same)
+    ∙ shed_is nand nor s slots st whole (meaning p) here.full counts

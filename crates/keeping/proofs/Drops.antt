@@ -90,9 +90,14 @@ module _ (nand nor : List ℕ) (s : State) (slots : ℕ) (counts : List ℕ) (g 
       unfolding drop_kept drop_outcome sooner
       drop_lost e = refuses w counts (drop_outcome w slots) next 10 (late_ten true (ap is_lost e)) (λ z. omega arith)
 
+      -- the plain drop is not refused
+      pub drop_accepted : (nand' : List ℕ) (s' : State) (a : ℕ) → returned a nand' nor s' ≡ drop_outcome w slots → a ≡ 0
+      unfolding drop_outcome
+      drop_accepted nand' s' a is = ap (λ (o : Outcome). o.number) is ∙ plain_number ∙ rw (passed.1, ne_eqb s.oldest s.current some_closed)
+
       pub drop_done : (c : List ℕ) → next ≡ some c → (nand' : List ℕ) (s' : State) (a : ℕ) → returned a nand' nor s' ≡ drop_outcome w slots
           → counted a nand' nor s' c ≡ drop_kept w slots counts
       unfolding drop_kept drop_outcome sooner
       drop_done c e nand' s' a is =
-          let z : a ≡ 0 = ap (λ (o : Outcome). o.number) is ∙ plain_number ∙ rw (passed.1, ne_eqb s.oldest s.current some_closed) in
+          let z : a ≡ 0 = drop_accepted nand' s' a is in
           rw z (accepts w counts (drop_outcome w slots) next 0 (late_ten false (ap is_lost e)) (world nand' nor s') c refl (ap (λ (o : Outcome). o.world) is) e)

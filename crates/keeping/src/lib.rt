@@ -5,41 +5,35 @@ pub mod pieces;
 
 ghost use Rattle.std.specs.Prelude.{◌≡◌};
 ghost use Rattle.form.specs.declared.Form.TheVariants.{New};
+ghost use Rattle.grounds.specs.Numbers.{number_in};
+ghost use Rattle.plate.specs.Plate.{no_counts};
 ghost use Rattle.store.specs.World.{world};
+ghost use Rattle.store.specs.Calls.{formatted};
 ghost use Rattle.keeping.specs.Keeping.{counted, format_kept, drop_kept, append_kept};
+ghost use Rattle.keeping.specs.Next.{next_state, next_counts};
 
 use form::Form;
+use grounds::Ground;
 use lift::NOTE_BYTES;
 use plate::PLATES;
 use store::State;
 
-// A call's number, the next state and the next counts: both as they were where the number is not 0. A format takes neither; refused, it
-// hands back the formatted state and 22 zeros all the same.
+// The next state and the next counts of a call that is accepted.
 #[derive(Clone, Copy)]
 pub struct Counted {
-    pub number: u8,
     pub state: State,
     pub counts: [u32; PLATES],
 }
 
-fn given(number: u8, state: State, counts: [u32; PLATES]) -> Counted
-    ensures { result ≡ record { number = number; state = state; counts = counts } }
-{
-    Counted {
-        number,
-        state,
-        counts,
-    }
-}
-
-pub fn format(nand: &mut [u8], nor: &mut [u8], slots: u64) -> Counted
-    ensures { counted result.number nand.new nor.new result.state result.counts
+// The state of an erased store and 22 zeros.
+pub fn format(nand: &mut [u8], nor: &mut [u8], slots: u64) -> Result<Counted, Ground>
+    ensures { counted (number_in result) nand.new nor.new (next_state formatted result)
+        (next_counts no_counts result)
         ≡ format_kept New nand.old nor.old slots }
 {
-    let a = State::format(nand, nor, slots);
-    let none = counts::no_counts();
-    let s = a.state;
-    given(a.number, s, none)
+    let state = State::format(nand, nor, slots)?;
+    let counts = counts::no_counts();
+    Ok(Counted { state, counts })
 }
 
 pub fn append(
@@ -51,55 +45,51 @@ pub fn append(
     time: u64,
     load: i32,
     note: [u8; NOTE_BYTES],
-) -> Counted
-    ensures { counted result.number nand.new nor.new result.state result.counts
+) -> Result<Counted, Ground>
+    ensures { counted (number_in result) nand.new nor.new (next_state s result)
+        (next_counts counts result)
         ≡ append_kept (world nand.old nor.old s) slots time load note counts }
 {
-    let g = s.entry_ground(nand.len(), nor.len(), slots, time, load);
-    let broken = counts::are_broken(counts);
-    let n = pieces::with_ground_3(g, broken);
-    if n != 0 {
-        return given(n, s, counts);
-    }
+    let plain = s.entry_ground(nand.len(), nor.len(), slots, time, load);
+    pieces::with_ground_3(plain, counts::are_broken(counts))?;
     let f = s.fields();
-    let a = f.planned(nand, nor, slots, load);
-    let p = a.plan;
-    let d = pieces::shed_if_due(f, counts, nand, slots, p);
-    let good = d.good;
-    if !good {
-        return given(10, s, counts);
-    }
-    let m = a.number;
-    if m != 0 {
-        return given(m, s, counts);
-    }
-    let t = store::append::pieces::carried_out(s, nand, nor, slots, time, load, note, p);
-    let left = d.counts;
-    let next = counts::one_more(left, lift::stored(load));
-    given(0, t, next)
+    let code = lift::stored(load);
+    let p = f.plan(nor, code);
+    let Some(left) = pieces::shed_if_due(f, counts, nand, slots, p) else {
+        return Err(Ground::Damage);
+    };
+    f.blocked(nand, nor, slots, code, p)?;
+    let state = store::append::pieces::carried_out(s, nand, nor, slots, time, load, note, p);
+    let next = counts::one_more(left, code);
+    Ok(Counted {
+        state,
+        counts: next,
+    })
 }
 
-pub fn drop(s: State, counts: [u32; PLATES], nand: &mut [u8], nor: &[u8], slots: u64) -> Counted
-    ensures { counted result.number nand.new nor.now result.state result.counts
+pub fn drop(
+    s: State,
+    counts: [u32; PLATES],
+    nand: &mut [u8],
+    nor: &[u8],
+    slots: u64,
+) -> Result<Counted, Ground>
+    ensures { counted (number_in result) nand.new nor.now (next_state s result)
+        (next_counts counts result)
         ≡ drop_kept (world nand.old nor.now s) slots counts }
 {
-    let g = s.ground(Form::New, 0, nand.len(), nor.len(), slots);
-    let broken = counts::are_broken(counts);
-    let n = pieces::with_ground_3(g, broken);
-    if n != 0 {
-        return given(n, s, counts);
-    }
+    let plain = s.ground(Form::New, 0, nand.len(), nor.len(), slots);
+    pieces::with_ground_3(plain, counts::are_broken(counts))?;
     if s.oldest == s.current {
-        return given(9, s, counts);
+        return Err(Ground::NothingThere);
     }
     let slot = flash::slot_of(s.oldest, slots);
-    let d = counts::without_segment(nand, slots, slot, s.current, counts);
-    let good = d.good;
-    if !good {
-        return given(10, s, counts);
-    }
-    let a = s.drop(nand, nor, slots);
-    let t = a.state;
-    let next = d.counts;
-    given(a.number, t, next)
+    let Some(less) = counts::without_segment(nand, slots, slot, s.current, counts) else {
+        return Err(Ground::Damage);
+    };
+    let state = s.drop(nand, nor, slots)?;
+    Ok(Counted {
+        state,
+        counts: less,
+    })
 }

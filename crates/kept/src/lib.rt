@@ -2,7 +2,7 @@
 // in form 0, the other answers are 8-byte numbers, a service page its text.
 #![tactic(auto)]
 
-ghost use Rattle.std.specs.Prelude.{◌≡◌, [], ◌∷◌, ◌*◌, ◌^◌, ◌<◌, length};
+ghost use Rattle.std.specs.Prelude.{◌≡◌, List, [], ◌∷◌, ℕ, ◌*◌, ◌^◌, ◌<◌, length, MatchResult};
 ghost use Rattle.form.specs.declared.Form.TheVariants.{Old, New};
 ghost use Rattle.codec.specs.Number.{bytes};
 ghost use Rattle.plate.specs.Total.{total};
@@ -11,11 +11,17 @@ ghost use Rattle.service_page.specs.Page.{page_bytes, page_of};
 ghost use Rattle.loads.specs.Signed.{side_by_side};
 ghost use Rattle.state_bytes.specs.StateBytes.{state_bytes, old_state_bytes, area_length};
 ghost use Rattle.counts.specs.CountsBytes.{counts_length, counts_bytes};
+ghost use Rattle.grounds.specs.Numbers.{number_in};
+ghost use Rattle.store.specs.declared.State.{State};
+ghost use Rattle.store.specs.Calls.{next_state};
+ghost use Rattle.keeping.specs.Next as Next;
+ghost use Rattle.keeping.specs.Next.{next_counts};
 ghost use Rattle.kept.specs.Kept.{kept};
 
+use grounds::Ground;
 use keeping::Counted;
 use plate::PLATES;
-use store::{Answer, OldState};
+use store::{OldState, State};
 
 // A count, or a plate.
 pub const NUMBER_BYTES: usize = 8;
@@ -27,57 +33,50 @@ pub const SEARCH_BYTES: usize = 32;
 pub const TOLERANT_BYTES: usize = 16;
 
 // The next state goes into its area if the call was accepted.
-pub fn keep_state(area: &mut [u8], a: Answer) -> u8
+pub fn keep_state(area: &mut [u8], r: Result<State, Ground>) -> u8
     requires { length area.old ≡ area_length New }
-    ensures number { result ≡ a.number }
-    ensures state { area.new ≡ kept a.number (state_bytes a.state) area.old }
+    ensures number { result ≡ number_in r }
+    ensures state { (s : State) → area.new ≡ kept (number_in r) (state_bytes (next_state s r)) area.old }
 {
-    if a.number == 0 {
-        let s = a.state;
-        state_bytes::put_state(area, s);
-    }
-    a.number
-}
-
-// The next counts go into their area if the call was accepted.
-fn keep_kept(area: &mut [u8], number: u8, counts: [u32; PLATES])
-    requires { length area.old ≡ counts_length }
-    ensures { area.new ≡ kept number (counts_bytes counts) area.old }
-{
-    if number == 0 {
-        counts::area::put_counts(area, counts);
+    match r {
+        Ok(s) => {
+            state_bytes::put_state(area, s);
+            0
+        }
+        Err(refused) => refused.number(),
     }
 }
 
 // The next state and the next counts.
-pub fn keep_counted(area: &mut [u8], counts: &mut [u8], a: Counted) -> u8
+pub fn keep_counted(area: &mut [u8], counts: &mut [u8], r: Result<Counted, Ground>) -> u8
     requires { (length area.old ≡ area_length New) × (length counts.old ≡ counts_length) }
-    ensures number { result ≡ a.number }
-    ensures state { area.new ≡ kept a.number (state_bytes a.state) area.old }
-    ensures counts { counts.new ≡ kept a.number (counts_bytes a.counts) counts.old }
+    ensures number { result ≡ number_in r }
+    ensures state { (s : State) → area.new ≡ kept (number_in r) (state_bytes (Next.next_state s r)) area.old }
+    ensures counts { (c : List ℕ) → counts.new ≡ kept (number_in r) (counts_bytes (next_counts c r)) counts.old }
 {
-    let s = a.state;
-    let c = a.counts;
-    keep_kept(counts, a.number, c);
-    keep_state(
-        area,
-        Answer {
-            number: a.number,
-            state: s,
-        },
-    )
+    match r {
+        Ok(k) => {
+            counts::area::put_counts(counts, k.counts);
+            state_bytes::put_state(area, k.state);
+            0
+        }
+        Err(g) => g.number(),
+    }
 }
 
 // A state of form 0.
-pub fn keep_old_state(area: &mut [u8], n: u8, s: OldState) -> u8
+pub fn keep_old_state(area: &mut [u8], r: Result<OldState, Ground>) -> u8
     requires { length area.old ≡ area_length Old }
-    ensures number { result ≡ n }
-    ensures state { area.new ≡ kept n (old_state_bytes s) area.old }
+    ensures number { result ≡ number_in r }
+    ensures state { MatchResult r (λ s. area.new ≡ old_state_bytes s) (λ _. area.new ≡ area.old) }
 {
-    if n == 0 {
-        state_bytes::put_old_state(area, s);
+    match r {
+        Ok(s) => {
+            state_bytes::put_old_state(area, s);
+            0
+        }
+        Err(ground) => ground.number(),
     }
-    n
 }
 
 // A number goes into the area of the answer if the call was accepted.
@@ -119,11 +118,8 @@ fn put_counts(answer: &mut [u8], counts: [u64; PLATES])
     requires { length answer.old ≡ 8 * plates }
     ensures { answer.new ≡ side_by_side (bytes 8) counts }
 {
-    let mut i: usize = 0;
-    while i < plate::PLATES {
-        let n = counts[i];
-        codec::put_u64(answer, NUMBER_BYTES * i, n);
-        i += 1;
+    for i in 0..PLATES {
+        codec::put_u64(answer, NUMBER_BYTES * i, counts[i]);
     }
 }
 

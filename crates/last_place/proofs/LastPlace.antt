@@ -2,7 +2,7 @@
 -- none above it; so a place of the last word that is not 0 is in the set and none above it is, and the set's places are those of the set
 -- without it, then it. Assumes nothing.
 use mathlib.Core.Path.{◌≡◌, sym, ap, ap₂, ◌∙◌}
-use mathlib.Core.Bool.{true, false, false≢true}
+use mathlib.Core.Bool.{true, false}
 use mathlib.Core.List.{List, [], ◌∷◌, ◌++◌, append-nil}
 use Prim.Native.Nat.{ℕ, zero, suc, ◌+◌, ◌-◌, ◌*◌, ◌/◌, ◌%◌, ◌^◌, ◌≤◌, ◌<◌}
 use native.Mathlib.Nat.{div-eq_of_lt}
@@ -15,7 +15,7 @@ use borrow.Author.Tests.{eq-eqb}
 use Rattle.bitset.specs.Set.{picked}
 use Rattle.bitset.specs.Inner.Words.{bit, has, without, members}
 use Rattle.bitset.specs.declared.Bits.{Bits}
-use Rattle.bitset.specs.declared.Next.{Next}
+use Rattle.std.specs.Prelude.{Some}
 use Rattle.bitset.proofs.Digits.{bit_suc, bit_zero}
 use Rattle.bitset.proofs.Picked.{picked_append, picked_none}
 use Rattle.bitset.proofs.Emptying.{members_without}
@@ -77,22 +77,15 @@ after_more ws i z h j l b = go (ℕ_discrete j (suc i))
     go (no f) = z j (omega arith) b
 
 -- word i is the last that is not 0, and k its highest bit
-pub last_found : (b : Bits) (i k v : ℕ) (r : Next) → length b.words ≡ 5 → i < 5 → ZerosAfter b.words i
+pub last_found : (b : Bits) (i k v : ℕ) (r : ℕ × Bits) → length b.words ≡ 5 → i < 5 → ZerosAfter b.words i
     → (k < 64) × (2 ^ k ≤ get_or b.words i 0) × (get_or b.words i 0 < 2 * 2 ^ k) → v ≡ 2 ^ k
-    → r ≡ record { found = true; at = 64 * i + k; rest = record { words = set (five_of b.words) i (get_or b.words i 0 - v) } }
-    → IsLast b r
+    → (r.0 ≡ 64 * i + k) × (r.1.words ≡ set (five_of b.words) i (get_or b.words i 0 - v))
+    → IsLast b (Some r)
 last_found b i k v r n l z h ev er =
     let same : set (five_of b.words) i (get_or b.words i 0 - v) ≡ set b.words i (get_or b.words i 0 - 2 ^ k) =
     ap₂ (λ (ws : List ℕ) (u : ℕ). set ws i (get_or b.words i 0 - u)) (five b.words n) ev in
-    let e : r ≡ over (set b.words i (get_or b.words i 0 - 2 ^ k)) = er ∙ ap over same in
-    rw e (record {
-      nothing = λ t. absurd (false≢true (sym t));
-      last = λ t. rw (q, m) at (highest_place b.words (64 * i + k) (omega (arith, h.0)) on above);
-    })
+    rw (er.1 ∙ same, er.0) (rw (q, m) at (highest_place b.words (64 * i + k) (omega (arith, h.0)) on above))
   where
-    over : List ℕ → Next
-    over ws = record { found = true; at = 64 * i + k; rest = record { words = ws } }
-
     q : (64 * i + k) / 64 ≡ i
     q = omega (arith, h.0)
 
@@ -115,8 +108,8 @@ no_place : (ws : List ℕ) → ((j : ℕ) → j < 5 → get_or ws j 0 ≡ 0) →
 unfolding members
 no_place ws z = picked_none (has ws) 0 320 (λ p a u. rw (z (p / 64) (omega arith), bit_zero (p % 64)))
 
-pub last_none : (b : Bits) (r : Next) → ZerosAfter b.words 0 → get_or b.words 0 0 ≤ 0 → r.found ≡ false → IsLast b r
-last_none b r z h e = record { nothing = λ t. no_place b.words zero_word; last = λ t. absurd (false≢true (sym e ∙ t)) }
+pub last_none : (b : Bits) → ZerosAfter b.words 0 → get_or b.words 0 0 ≤ 0 → members b.words ≡ []
+last_none b z h = no_place b.words zero_word
   where
     zero_word : (j : ℕ) → j < 5 → get_or b.words j 0 ≡ 0
     zero_word zero l = omega arith

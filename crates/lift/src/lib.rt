@@ -5,7 +5,7 @@ ghost use Rattle.std.specs.Prelude.{◌≡◌, true, ◌+◌, ◌-◌, ◌*◌, 
 ghost use Rattle.codec.specs.Area.{part, splice};
 ghost use Rattle.lift.specs.Limits as Limits;
 ghost use Rattle.lift.specs.Record.{time_at, code_at, member_at, record_width};
-ghost use Rattle.lift.specs.Rows.{time_in, code_in, member_in, record_in};
+ghost use Rattle.lift.specs.Rows.{time_in, code_in, member_in, record_in, lifts_most};
 
 // "a time (ms, 0 to 999,999,999,999,999)"
 pub const TIME_LIMIT: u64 = 999999999999999;
@@ -93,47 +93,104 @@ pub fn record_member(area: &[u8], at: usize) -> u32
     codec::get_u32(area, at + NOTE_AT)
 }
 
-// The time of the lift at place p of a segment, its load as stored and its member: the records before place `first` stand in `lifts`, the
-// others in `tail`.
+// The 32 bytes of row i of an area.
+pub fn row(area: &[u8], i: usize) -> &[u8]
+    requires { i * record_width + record_width ≤ length area.now }
+    ensures { result.now ≡ part area.now (i * record_width) record_width }
+{
+    let start = i * RECORD_BYTES;
+    let end = start + RECORD_BYTES;
+    &area[start..end]
+}
+
+// A segment's lifts: the records of those before place `first` stand in `pages`, the others in `tail`.
+#[derive(Clone, Copy)]
+pub struct Lifts<'a> {
+    pub pages: &'a [u8],
+    pub tail: &'a [u8],
+    pub first: usize,
+    pub count: u16,
+    pub ghost few: { count ≤ lifts_most },
+    pub ghost before: { count * record_width ≤ length pages.now },
+    pub ghost after: { (count - first) * record_width ≤ length tail.now },
+    pub ghost any: { record_width ≤ length tail.now },
+}
+
+impl<'a> Lifts<'a> {
+    // The record of the lift at place p.
+    pub fn record(self, p: usize) -> &'a [u8]
+        requires { p < self.count }
+        ensures is { result.now ≡ record_in self.entry.pages.now self.entry.tail.now self.entry.first p }
+        ensures whole { length result.now ≡ record_width }
+    {
+        record_of(self.pages, self.tail, self.first, p)
+    }
+
+    // Its time, its load as stored, its member.
+    pub fn time(self, p: usize) -> u64
+        requires { p < self.count }
+        ensures { result ≡ time_in self.entry.pages.now self.entry.tail.now self.entry.first p }
+    {
+        record_time(self.record(p), 0)
+    }
+
+    pub fn code(self, p: usize) -> u32
+        requires { p < self.count }
+        ensures { result ≡ code_in self.entry.pages.now self.entry.tail.now self.entry.first p }
+    {
+        record_code(self.record(p), 0)
+    }
+
+    pub fn member(self, p: usize) -> u32
+        requires { p < self.count }
+        ensures { result ≡ member_in self.entry.pages.now self.entry.tail.now self.entry.first p }
+    {
+        record_member(self.record(p), 0)
+    }
+
+    // Its record is copied to row `to` of the result area.
+    pub fn put_row(self, p: usize, area: &mut [u8], to: usize)
+        requires within { p < self.count }
+        requires room { to * record_width + record_width ≤ length area.old }
+        ensures { area.new ≡ splice area.old (to * record_width)
+            (record_in self.entry.pages.now self.entry.tail.now self.entry.first p) }
+    {
+        codec::copy(area, to * RECORD_BYTES, self.record(p));
+    }
+}
+
+// The same of areas that are no segment's in one piece: the records before place `first` stand in `lifts`, the others in `tail`.
+pub fn record_of<'a>(lifts: &'a [u8], tail: &'a [u8], first: usize, p: usize) -> &'a [u8]
+    requires { (p * record_width + record_width ≤ length lifts.now) × ((p - first) * record_width + record_width ≤ length tail.now) }
+    ensures is { result.now ≡ record_in lifts.now tail.now first p }
+    ensures whole { length result.now ≡ record_width }
+{
+    if p < first {
+        row(lifts, p)
+    } else {
+        row(tail, p - first)
+    }
+}
+
 pub fn time_in(lifts: &[u8], tail: &[u8], first: usize, p: usize) -> u64
     requires { (p * record_width + record_width ≤ length lifts.now) × ((p - first) * record_width + record_width ≤ length tail.now) }
     ensures { result ≡ time_in lifts.now tail.now first p }
 {
-    if p < first {
-        return record_time(lifts, p * RECORD_BYTES);
-    }
-    record_time(tail, (p - first) * RECORD_BYTES)
+    record_time(record_of(lifts, tail, first, p), 0)
 }
 
 pub fn code_in(lifts: &[u8], tail: &[u8], first: usize, p: usize) -> u32
     requires { (p * record_width + record_width ≤ length lifts.now) × ((p - first) * record_width + record_width ≤ length tail.now) }
     ensures { result ≡ code_in lifts.now tail.now first p }
 {
-    if p < first {
-        return record_code(lifts, p * RECORD_BYTES);
-    }
-    record_code(tail, (p - first) * RECORD_BYTES)
+    record_code(record_of(lifts, tail, first, p), 0)
 }
 
 pub fn member_in(lifts: &[u8], tail: &[u8], first: usize, p: usize) -> u32
     requires { (p * record_width + record_width ≤ length lifts.now) × ((p - first) * record_width + record_width ≤ length tail.now) }
     ensures { result ≡ member_in lifts.now tail.now first p }
 {
-    if p < first {
-        return record_member(lifts, p * RECORD_BYTES);
-    }
-    record_member(tail, (p - first) * RECORD_BYTES)
-}
-
-// The record's bytes from `at`.
-fn record_at(s: &[u8], at: usize) -> [u8; RECORD_BYTES]
-    requires { at + record_width ≤ length s.now }
-    ensures { result ≡ part s.now at record_width }
-{
-    let mut r = [0u8; RECORD_BYTES];
-    let e = at + RECORD_BYTES;
-    codec::copy(&mut r, 0, &s[at..e]);
-    r
+    record_member(record_of(lifts, tail, first, p), 0)
 }
 
 // The record of the lift at place p is copied to row `row` of the result area.
@@ -143,12 +200,5 @@ pub fn put_row(area: &mut [u8], row: usize, lifts: &[u8], tail: &[u8], first: us
     ensures { area.new
         ≡ splice area.old (row * record_width) (record_in lifts.now tail.now first p) }
 {
-    let at = row * RECORD_BYTES;
-    if p < first {
-        let early = record_at(lifts, p * RECORD_BYTES);
-        codec::copy(area, at, &early);
-        return;
-    }
-    let late = record_at(tail, (p - first) * RECORD_BYTES);
-    codec::copy(area, at, &late);
+    codec::copy(area, row * RECORD_BYTES, record_of(lifts, tail, first, p));
 }

@@ -1,9 +1,10 @@
--- The lines of lifts: how many bytes a line has, and lines of one list after another's. The idea: four digits more are one division by
--- 10,000 more, and a line has its three numerals, two commas and CRLF. Assumes nothing.
+-- The lines of lifts: how many bytes a line has, and lines of one list after another's. The idea: a digit more is a power of
+-- ten more, and a line has its three numerals, two commas and CRLF. Assumes nothing.
 use mathlib.Core.Path.{◌≡◌, refl, sym, ap, ◌∙◌}
 use mathlib.Core.Bool.{Bool, true, false, cond}
 use mathlib.Core.List.{List, [], ◌∷◌, ◌++◌, append_assoc}
-use Prim.Native.Nat.{ℕ, suc, ◌+◌, ◌-◌, ◌/◌, ◌%◌, ◌^◌, ◌≤◌, ◌<◌}
+use Prim.Native.Nat.{ℕ, zero, suc, max, ◌+◌, ◌-◌, ◌*◌, ◌/◌, ◌%◌, ◌^◌, ◌≤◌, ◌<◌}
+use native.Mathlib.Nat.{pow-suc}
 use native.Mathlib.Omega.{arith}
 use borrow.Author.Tests.{lt-ltb, le-ltb, ltb-true, ltb-false}
 use lib.Dec.{ltb}
@@ -29,24 +30,18 @@ some_digit v = go (ltb v 10) refl
     go true e = omega (arith, one_digit v (ltb-true v 10 e))
     go false e = omega (arith, digit_more v (ltb-false v 10 e))
 
-pub two_digits : (v : ℕ) → 10 ≤ v → v < 100 → length (digits v) ≡ 2
-two_digits v h k = digit_more v h ∙ omega (arith, one_digit (v / 10) (omega arith))
+power_some : (k : ℕ) → 0 < 10 ^ k
+power_some zero = omega arith
+power_some (suc k) = let p : 10 ^ suc k ≡ 10 ^ k * 10 = pow-suc 10 k in omega (arith, power_some k)
 
-pub three_digits : (v : ℕ) → 100 ≤ v → v < 1000 → length (digits v) ≡ 3
-three_digits v h k = digit_more v (omega arith) ∙ omega (arith, two_digits (v / 10) (omega arith) (omega arith))
-
-pub four_digits : (v : ℕ) → 1000 ≤ v → v < 10000 → length (digits v) ≡ 4
-four_digits v h k = digit_more v (omega arith) ∙ omega (arith, three_digits (v / 10) (omega arith) (omega arith))
-
-pub four_more : (v : ℕ) → 10000 ≤ v → length (digits v) ≡ 4 + length (digits (v / 10000))
-four_more v h =
-    let e : v / 10 / 10 / 10 / 10 ≡ v / 10000 = omega arith in
-    let a = digit_more v (omega arith) in
-    let b = digit_more (v / 10) (omega arith) in
-    let c = digit_more (v / 10 / 10) (omega arith) in
-    let d : length (digits (v / 10 / 10 / 10)) ≡ 1 + length (digits (v / 10000)) =
-    digit_more (v / 10 / 10 / 10) (omega arith) ∙ ap (λ (n : ℕ). 1 + length (digits n)) e in
-    omega arith
+-- by the power of ten that is not above it; 0 has a digit too
+pub digits_by_power : (k v : ℕ) → 10 ^ k ≤ max v 1 → max v 1 < 10 * 10 ^ k → length (digits v) ≡ k + 1
+digits_by_power zero v h l = let e : 10 * 10 ^ 0 ≡ 10 = refl in one_digit v (omega arith)
+digits_by_power (suc k) v h l =
+    let p : 10 ^ suc k ≡ 10 ^ k * 10 = pow-suc 10 k in
+    let z : 0 < 10 ^ k = power_some k in
+    let ih = digits_by_power k (v / 10) (omega arith) (omega arith) in
+    digit_more v (omega arith) ∙ omega arith
 
 -- ---- a line
 

@@ -11,54 +11,20 @@ ghost use Rattle.lift_text.specs.Inner.Before.{PutBefore};
 use lift::CODE_OF_ZERO;
 use lines::{LINE_FEED, MINUS, ZERO};
 
-pub const COMMA: u8 = 44;
+pub const COMMA: u8 = b',';
 
-pub const CARRIAGE_RETURN: u8 = 13;
+pub const CARRIAGE_RETURN: u8 = b'\r';
 
 // "time,load,member" and its CRLF.
-pub const HEADING: [u8; 16] = [
-    116, 105, 109, 101, 44, 108, 111, 97, 100, 44, 109, 101, 109, 98, 101, 114,
-];
+pub const HEADING: [u8; 16] = *b"time,load,member";
 
 pub const HEAD_BYTES: usize = 18;
 
-// How many digits a number below 10,000 has.
-fn few_digits(v: u64) -> u64
-    requires { v < 10000 }
-    ensures { (result ≡ length (digits v)) × (result ≤ 4) }
-{
-    if v < 100 {
-        if v < 10 {
-            return 1;
-        }
-        return 2;
-    }
-    if v < 1000 {
-        return 3;
-    }
-    4
-}
-
-// How many digits a number has, by four at a time.
+// How many digits a number has.
 fn digits_in(v: u64) -> u64
     ensures { (result ≡ length (digits v)) × (result ≤ 20) }
 {
-    if v < 10000 {
-        return few_digits(v);
-    }
-    let a = v / 10000;
-    if a < 10000 {
-        return 4 + few_digits(a);
-    }
-    let b = a / 10000;
-    if b < 10000 {
-        return 8 + few_digits(b);
-    }
-    let c = b / 10000;
-    if c < 10000 {
-        return 12 + few_digits(c);
-    }
-    16 + few_digits(c / 10000)
+    u64::from(v.max(1).ilog10()) + 1
 }
 
 // How many bytes a load's numeral has, from the load as stored.
@@ -66,10 +32,7 @@ fn load_bytes(code: u32) -> u64
     ensures { (result ≡ length (load_text (load_of code))) × (result ≤ 21) }
 {
     let n = digits_in(answers::size_of(code));
-    if code < CODE_OF_ZERO {
-        return n + 1;
-    }
-    n
+    if code < CODE_OF_ZERO { n + 1 } else { n }
 }
 
 // How many bytes the line of a lift has: two commas and CRLF are four.
@@ -79,7 +42,7 @@ pub fn line_bytes(time: u64, code: u32, member: u32) -> u64
     digits_in(time) + load_bytes(code) + digits_in(member as u64) + 4
 }
 
-// The digits of a number end at `end`; returns where they begin.
+// The digits of a number end at `end`; returns where they begin. No twin of `answers::put_number`: it writes no column before them.
 fn put_digits(area: &mut [u8], end: usize, v: u64) -> usize
     requires { (length (digits v) ≤ end) × (end ≤ length area.old) }
     ensures { PutBefore area.old area.new (digits v) end result }
@@ -92,7 +55,7 @@ fn put_digits(area: &mut [u8], end: usize, v: u64) -> usize
         if rest < 10 {
             return to;
         }
-        rest = rest / 10;
+        rest /= 10;
     }
 }
 
@@ -105,12 +68,14 @@ fn put_load(area: &mut [u8], end: usize, code: u32) -> usize
     let at = put_digits(area, end, size);
     if code < CODE_OF_ZERO {
         area[at - 1] = MINUS;
-        return at - 1;
+        at - 1
+    } else {
+        at
     }
-    at
 }
 
 // The line of a lift ends at `end`; returns where it begins.
+#[tactic(auto, using(crate::proofs::Lines::length_told))]
 pub fn put_line(area: &mut [u8], end: usize, time: u64, code: u32, member: u32) -> usize
     requires { (length (line_text (record { time = time; load = load_of code; member = member })) ≤ end) × (end ≤ length area.old) }
     ensures { PutBefore area.old area.new

@@ -1,22 +1,24 @@
 // The lines of `slotlist` (document 01, "Program"): a line, read by its form.
 #![tactic(auto)]
 
-ghost use Rattle.std.specs.Prelude.{◌≡◌, ◌+◌, ◌^◌, ◌≤◌, ◌<◌, eqb, length};
-ghost use Rattle.std.proofs.Math.IntN.{sub_ℕ};
+ghost use Rattle.std.specs.Prelude.{◌≡◌, cond, Some, None, unwrap_or, ◌+◌, ◌^◌, ◌≤◌, ◌<◌, eqb, length};
 ghost use Rattle.codec.specs.Area.{part};
 ghost use Rattle.lines.specs.Columns as Columns;
 ghost use Rattle.lines.specs.Columns.{field_in, value_of};
+ghost use Rattle.lines.specs.declared.Line.TheVariants.{Other};
 ghost use Rattle.lines.specs.Forms as Forms;
+ghost use Rattle.lines.specs.Forms.{time_field};
+ghost use Rattle.lines.specs.Inner.Read.{window_in};
 
-pub const MINUS: u8 = 45;
+pub const MINUS: u8 = b'-';
 
-pub const SPACE: u8 = 32;
+pub const SPACE: u8 = b' ';
 
-pub const ZERO: u8 = 48;
+pub const ZERO: u8 = b'0';
 
-pub const NINE: u8 = 57;
+pub const NINE: u8 = b'9';
 // The byte that ends a line.
-pub const LINE_FEED: u8 = 10;
+pub const LINE_FEED: u8 = b'\n';
 // "times in 15 columns and loads in 8"
 pub const TIME_COLUMNS: usize = 15;
 
@@ -44,56 +46,72 @@ pub enum Field {
     Broken,
 }
 
-fn with_digit(f: Field, d: u64) -> Field
-    requires { (value_of f < 10 ^ 18) × (d < 10) }
-    ensures { result ≡ Columns.with_digit f d }
-{
-    match f {
-        Field::Spaces => Field::Digits(false, d),
-        Field::Minus => Field::Digits(true, d),
-        Field::Digits(minus, v) => Field::Digits(minus, v * 10 + d),
-        Field::Broken => Field::Broken,
+impl Field {
+    fn with_digit(self, d: u64) -> Field
+        requires { (value_of self < 10 ^ 18) × (d < 10) }
+        ensures { result ≡ Columns.with_digit self d }
+    {
+        match self {
+            Field::Spaces => Field::Digits(false, d),
+            Field::Minus => Field::Digits(true, d),
+            Field::Digits(minus, v) => Field::Digits(minus, v * 10 + d),
+            Field::Broken => Field::Broken,
+        }
     }
-}
 
-fn with_space(f: Field) -> Field
-    ensures { result ≡ Columns.with_space f }
-{
-    match f {
-        Field::Spaces => Field::Spaces,
-        Field::Minus => Field::Broken,
-        Field::Digits(_, _) => Field::Broken,
-        Field::Broken => Field::Broken,
+    fn with_space(self) -> Field
+        ensures { result ≡ Columns.with_space self }
+    {
+        match self {
+            Field::Spaces => Field::Spaces,
+            _ => Field::Broken,
+        }
     }
-}
 
-fn with_minus(f: Field) -> Field
-    ensures { result ≡ Columns.with_minus f }
-{
-    match f {
-        Field::Spaces => Field::Minus,
-        Field::Minus => Field::Broken,
-        Field::Digits(_, _) => Field::Broken,
-        Field::Broken => Field::Broken,
+    fn with_minus(self) -> Field
+        ensures { result ≡ Columns.with_minus self }
+    {
+        match self {
+            Field::Spaces => Field::Minus,
+            _ => Field::Broken,
+        }
     }
-}
 
-// One column more.
-fn read_on(f: Field, b: u8) -> Field
-    requires { value_of f < 10 ^ 18 }
-    ensures { result ≡ Columns.read_on f b }
-{
-    if (ZERO <= b) & (b <= NINE) {
-        let d = (b - ZERO) as u64;
-        return with_digit(f, d);
+    // One column more.
+    #[tactic(auto, unfolding(crate::specs::Columns::read_on))]
+    fn read_on(self, b: u8) -> Field
+        requires { value_of self < 10 ^ 18 }
+        ensures { result ≡ Columns.read_on self b }
+    {
+        match b {
+            ZERO..=NINE => self.with_digit((b - ZERO) as u64),
+            SPACE => self.with_space(),
+            MINUS => self.with_minus(),
+            _ => Field::Broken,
+        }
     }
-    if b == SPACE {
-        return with_space(f);
+
+    // The time that it says: digits with no minus.
+    pub fn time(self) -> Option<u64>
+        ensures { result ≡ cond (Columns.is_time self) (Some (value_of self)) None }
+    {
+        match self {
+            Field::Digits(false, v) => Some(v),
+            _ => None,
+        }
     }
-    if b == MINUS {
-        return with_minus(f);
+
+    // The load that it says: a minus stands only before a number other than 0.
+    fn load(self) -> Option<i32>
+        requires { value_of self < 10 ^ 8 }
+        ensures { result ≡ cond (Columns.is_load self) (Some (Columns.load_in self)) None }
+    {
+        match self {
+            Field::Digits(false, v) => Some(v as i32),
+            Field::Digits(true, v) if v != 0 => Some(-(v as i32)),
+            _ => None,
+        }
     }
-    Field::Broken
 }
 
 // The field in `width` columns from `at`.
@@ -102,165 +120,64 @@ pub fn field_at(s: &[u8], at: usize, width: usize) -> Field
     ensures { (result ≡ field_in (part s.now at width)) × (value_of result < 10 ^ width) }
 {
     let mut f = Field::Spaces;
-    let mut to = at;
-    let mut left = width;
-    while 0 < left {
-        let b = s[to];
-        f = read_on(f, b);
-        to += 1;
-        left -= 1;
+    for b in &s[at..at + width] {
+        f = f.read_on(*b);
     }
     f
 }
 
-pub fn is_time(f: Field) -> bool
-    ensures { result ≡ Columns.is_time f }
-{
-    match f {
-        Field::Spaces => false,
-        Field::Minus => false,
-        Field::Digits(minus, _) => !minus,
-        Field::Broken => false,
-    }
-}
-
-// A minus stands only before a number other than 0.
-fn is_load(f: Field) -> bool
-    ensures { result ≡ Columns.is_load f }
-{
-    match f {
-        Field::Spaces => false,
-        Field::Minus => false,
-        Field::Digits(minus, v) => !minus | (v != 0),
-        Field::Broken => false,
-    }
-}
-
-pub fn time_of(f: Field) -> u64
-    ensures { result ≡ value_of f }
-{
-    match f {
-        Field::Spaces => 0,
-        Field::Minus => 0,
-        Field::Digits(_, v) => v,
-        Field::Broken => 0,
-    }
-}
-
-fn has_minus(f: Field) -> bool
-    ensures { result ≡ Columns.has_minus f }
-{
-    match f {
-        Field::Spaces => false,
-        Field::Minus => false,
-        Field::Digits(minus, _) => minus,
-        Field::Broken => false,
-    }
-}
-
-// a − b
-fn difference(a: u32, b: u32) -> i32
-    requires { (a < 2 ^ 31) × (b < 2 ^ 31) }
-    ensures { result ≡ sub_ℕ a b }
-{
-    (a as i32) - (b as i32)
-}
-
-fn load_of(f: Field) -> i32
-    requires { value_of f < 10 ^ 8 }
-    ensures { result ≡ Columns.load_in f }
-{
-    let v = time_of(f) as u32;
-    if has_minus(f) {
-        return difference(0, v);
-    }
-    difference(v, 0)
-}
-
-fn append_line(s: &[u8]) -> Line
+#[tactic(auto, unfolding(crate::specs::Forms::append_line))]
+fn append_line(s: &[u8]) -> Option<Line>
     requires { length s.now ≡ 24 }
-    ensures { result ≡ Forms.append_line s.now }
+    ensures { unwrap_or result Other ≡ Forms.append_line s.now }
 {
-    let t = field_at(s, 1, TIME_COLUMNS);
-    let k = field_at(s, 16, LOAD_COLUMNS);
-    if is_time(t) & is_load(k) {
-        let time = time_of(t);
-        let load = load_of(k);
-        return Line::Append(time, load);
-    }
-    Line::Other
+    let time = field_at(s, 1, TIME_COLUMNS).time()?;
+    let load = field_at(s, 16, LOAD_COLUMNS).load()?;
+    Some(Line::Append(time, load))
 }
 
-// A line by a window of times: P, or T.
-fn window_line(s: &[u8], page: bool) -> Line
-    requires { length s.now ≡ 31 }
-    ensures { result ≡ Forms.window_line page s.now }
+// The two times of a window, after a line's letter.
+fn window(s: &[u8]) -> Option<(u64, u64)>
+    requires { 31 ≤ length s.now }
+    ensures { result ≡ window_in (time_field s.now 1) (time_field s.now 16) }
 {
-    let a = field_at(s, 1, TIME_COLUMNS);
-    let b = field_at(s, 16, TIME_COLUMNS);
-    if is_time(a) & is_time(b) {
-        let t1 = time_of(a);
-        let t2 = time_of(b);
-        if page {
-            return Line::Page(t1, t2);
-        }
-        return Line::Tally(t1, t2);
-    }
-    Line::Other
+    let t1 = field_at(s, 1, TIME_COLUMNS).time()?;
+    let t2 = field_at(s, 16, TIME_COLUMNS).time()?;
+    Some((t1, t2))
 }
 
-fn search_line(s: &[u8]) -> Line
+#[tactic(auto, unfolding(crate::specs::Forms::search_line))]
+fn search_line(s: &[u8]) -> Option<Line>
     requires { length s.now ≡ 47 }
-    ensures { result ≡ Forms.search_line s.now }
+    ensures { unwrap_or result Other ≡ Forms.search_line s.now }
 {
-    let a = field_at(s, 1, TIME_COLUMNS);
-    let b = field_at(s, 16, TIME_COLUMNS);
-    let c = field_at(s, 31, LOAD_COLUMNS);
-    let d = field_at(s, 39, LOAD_COLUMNS);
-    if (is_time(a) & is_time(b)) & (is_load(c) & is_load(d)) {
-        let t1 = time_of(a);
-        let t2 = time_of(b);
-        let k1 = load_of(c);
-        let k2 = load_of(d);
-        return Line::Search(t1, t2, k1, k2);
-    }
-    Line::Other
+    let (t1, t2) = window(s)?;
+    let k1 = field_at(s, 31, LOAD_COLUMNS).load()?;
+    let k2 = field_at(s, 39, LOAD_COLUMNS).load()?;
+    Some(Line::Search(t1, t2, k1, k2))
 }
 
-// Whether the line has this letter and this length.
-fn has_form(s: &[u8], letter: u8, n: usize) -> bool
-    requires { 0 < n }
-    ensures { result ≡ Forms.has_form s.now letter n }
+// The line, if it is of a form.
+#[tactic(auto, unfolding(crate::specs::Forms::line_of, crate::specs::Forms::has_form, crate::specs::Forms::window_line))]
+fn in_form(s: &[u8]) -> Option<Line>
+    ensures { unwrap_or result Other ≡ Forms.line_of s.now }
 {
-    if s.len() != n {
-        return false;
+    match (*s.first()?, s.len()) {
+        (b'A', 24) => append_line(s),
+        (b'C', 1) => Some(Line::Close),
+        (b'G', 1) => Some(Line::Drop),
+        (b'Q', 47) => search_line(s),
+        (b'T', 31) => window(s).map(|(t1, t2)| Line::Tally(t1, t2)),
+        (b'P', 31) => window(s).map(|(t1, t2)| Line::Page(t1, t2)),
+        _ => None,
     }
-    s[0] == letter
 }
 
-// A line without its line feed.
+// A line without its line feed. `Other` stays, and not an Option: `line_of` and the theorems of `desk` name it.
 pub fn parse(s: &[u8]) -> Line
     ensures { result ≡ Forms.line_of s.now }
 {
-    if has_form(s, 65, 24) {
-        return append_line(s);
-    }
-    if has_form(s, 67, 1) {
-        return Line::Close;
-    }
-    if has_form(s, 71, 1) {
-        return Line::Drop;
-    }
-    if has_form(s, 81, 47) {
-        return search_line(s);
-    }
-    if has_form(s, 84, 31) {
-        return window_line(s, false);
-    }
-    if has_form(s, 80, 31) {
-        return window_line(s, true);
-    }
-    Line::Other
+    in_form(s).unwrap_or(Line::Other)
 }
 
 pub fn ends_line(b: u8) -> bool

@@ -14,7 +14,7 @@ use store::State;
 // Of the program's store.
 pub const SLOTS: u64 = 2;
 
-const LETTER_P: u8 = 80;
+const LETTER_P: u8 = b'P';
 
 // Letter and number, and a line feed.
 const HEAD_BYTES: usize = 5;
@@ -28,13 +28,13 @@ pub fn page_answer(nand: &[u8], nor: &[u8], s: State, t1: u64, t2: u64, o: &mut 
         (page_answer (tally_outcome (world nand.now nor.now s) 2 t1 t2) t1 t2) }
 {
     let t = questions::tally(s, nand, nor, SLOTS, t1, t2);
-    let n = t.number;
-    let counts = t.counts;
-    answers::put_head(o, LETTER_P, n);
+    answers::put_head(o, LETTER_P, grounds::number_in(&t));
     o[4] = LINE_FEED;
-    if n != 0 {
-        return HEAD_BYTES;
+    match t {
+        Err(_) => HEAD_BYTES,
+        Ok(counts) => {
+            service_page::put_page(o, HEAD_BYTES, t1, t2, counts);
+            ANSWER_BYTES
+        }
     }
-    service_page::put_page(o, HEAD_BYTES, t1, t2, counts);
-    ANSWER_BYTES
 }

@@ -8,6 +8,7 @@ use native.Mathlib.Omega.{arith}
 use lib.ListN.{length, length-map, length-append}
 use borrow.Author.Tests.{lt-ltb, le-ltb}
 use Rattle.codec.specs.Area.{splice}
+use Rattle.bitset.specs.declared.Bits.{Bits}
 use Rattle.bitset.specs.Inner.Words.{members, Below}
 use Rattle.lift.proofs.Rows.{record_length}
 use Rattle.visit.specs.declared.Log.{Log}
@@ -19,7 +20,7 @@ use Rattle.search.specs.Answers.{row_bytes}
 use Rattle.supersets.specs.Pairs.{first_fit, without_fit, pair_with, pairs_of, side_by_side, joins, pair_rows}
 use Rattle.whole_log.specs.Inner.Held.{rows_on, places_in, records_at, row_at, rows_held, set_for, Room, Held}
 use Rattle.whole_log.specs.Inner.Rising.{Rising}
-use Rattle.whole_log.specs.Inner.Turns.{Ends}
+use Rattle.whole_log.specs.Inner.Turns.{Whole}
 use Rattle.joining.specs.Inner.Passing.{written_on, ReadableFrom, lent_rows, Joined}
 use Rattle.joining.proofs.Segments.{rows_same}
 use Rattle.joining.proofs.Passes.{pass_of, pass_pairs, Comes, list_comes, written_none, WidePairs, written_all}
@@ -28,7 +29,7 @@ use Rattle.pairs.specs.Inner.Hands.{InHand, Lends, Known, Writes}
 
 -- ---- the first log goes on without its sets
 
-module _ (nand nor page : List ℕ) (g : Log) (q : Query) (o : Option (List (List ℕ))) (way sets : List ℕ) (low : ℕ) where
+module _ (nand nor page : List ℕ) (g : Log) (q : Query) (o : Option (List (List ℕ))) (way : List ℕ) (sets : List Bits) (low : ℕ) where
   held_rows : Held nand nor page g q way sets low → rows_held nand page g way sets low ≡ lent_rows nand nor page g q way low
   held_rows h =
       rows_same (row_at nand page g way) (places_in sets) (λ i. members (set_for nand nor page g q way i)) (g.slots + 1 - low) low
@@ -51,11 +52,11 @@ module _ (nand nor page : List ℕ) (g : Log) (q : Query) (o : Option (List (Lis
         rises = λ e. rw (← held_rows h.held) (h.rises (w e));
       }
 
-pub hand_both : (nand nor page : List ℕ) (g : Log) (q : Query) (o : Option (List (List ℕ))) (way sets : List ℕ) (low : ℕ) (rising both : Bool)
+pub hand_both : (nand nor page : List ℕ) (g : Log) (q : Query) (o : Option (List (List ℕ))) (way : List ℕ) (sets : List Bits) (low : ℕ) (rising both : Bool)
     → (both ≡ true → rising ≡ true) → InHand nand nor page g q o way sets low rising → InHand nand nor page g q o way sets low both
 hand_both nand nor page g q o way sets low rising both w h = record { held = h.held; rows = h.rows; rises = λ e. h.rises (w e) }
 
-pub reads : (nand nor page : List ℕ) (g : Log) (q : Query) (way sets : List ℕ) (low : ℕ) → Held nand nor page g q way sets low
+pub reads : (nand nor page : List ℕ) (g : Log) (q : Query) (way : List ℕ) (sets : List Bits) (low : ℕ) → Held nand nor page g q way sets low
     → ReadableFrom nand page g way sets low
 reads nand nor page g q way sets low h = record { from_most = h.low_most; each = λ i a b. (h.each i a b).readable }
 
@@ -76,7 +77,7 @@ module _ (nand page : List ℕ) (g : Log) (way : List ℕ) (places : ℕ → Lis
       (wide_places i (h i (omega arith) (omega arith)) (places i) (b i (omega arith) (omega arith)))
       (wide_rows n (suc i) (λ k l m. h k (omega arith) (omega arith)) (λ k l m. b k (omega arith) (omega arith)))
 
-pub wide_read : (nand page : List ℕ) (g : Log) (way sets : List ℕ) (low : ℕ) → ReadableFrom nand page g way sets low
+pub wide_read : (nand page : List ℕ) (g : Log) (way : List ℕ) (sets : List Bits) (low : ℕ) → ReadableFrom nand page g way sets low
     → Wide 32 (rows_held nand page g way sets low)
 wide_read nand page g way sets low r =
     wide_rows nand page g way (places_in sets) (g.slots + 1 - low) low
@@ -129,7 +130,7 @@ module _ (fits : List ℕ → List ℕ → Bool) where
 
 -- ---- the pass
 
-module _ (nand page : List ℕ) (g : Log) (way : List ℕ) (rising : Bool) (rows : ℕ) (first : List (List ℕ)) (free : List ℕ) (low : ℕ)
+module _ (nand page : List ℕ) (g : Log) (way : List ℕ) (rising : Bool) (rows : ℕ) (first : List (List ℕ)) (free : List Bits) (low : ℕ)
     (area new : List ℕ) (n : ℕ)
     (j : Joined nand page g way rising rows first free low area new n) (rises : rising ≡ true → Rising 0 first)
     (rises2 : rising ≡ true → Rising 0 (rows_held nand page g way free low)) where
@@ -167,11 +168,11 @@ module _ (nand page : List ℕ) (g : Log) (way : List ℕ) (rising : Bool) (rows
 -- ---- what the calls go by
 
 -- there is room for 4,097 segments
-pub room_made : (g : Log) (way sets : List ℕ) → g.slots ≤ 4096 → length way ≡ 4097 → length sets ≡ 20485 → Room g way sets
+pub room_made : (g : Log) (way : List ℕ) (sets : List Bits) → g.slots ≤ 4096 → length way ≡ 4097 → length sets ≡ 4097 → Room g way sets
 room_made g way sets h a b = record { slots_most_lem = h; ways = omega arith; words = omega arith }
 
 -- as before
-pub room_new : (g : Log) (way sets new_way new_sets : List ℕ) → Room g way sets → length new_way ≡ length way → length new_sets ≡ length sets
+pub room_new : (g : Log) (way : List ℕ) (sets : List Bits) (new_way : List ℕ) (new_sets : List Bits) → Room g way sets → length new_way ≡ length way → length new_sets ≡ length sets
     → Room g new_way new_sets
 room_new g way sets new_way new_sets r a b =
     record { slots_most_lem = r.slots_most_lem; ways = omega (arith, r.ways); words = omega (arith, r.words) }
@@ -180,22 +181,16 @@ some_same : {xs ys : List (List ℕ)} → some xs ≡ some ys → xs ≡ ys
 some_same e = cc
 
 -- a log without damage is in hand
-pub good_known : (nand nor page : List ℕ) (g : Log) (q : Query) (o : Option (List (List ℕ))) (way sets : List ℕ) (good : Bool) (low : ℕ)
+pub known_hand : (nand nor page : List ℕ) (g : Log) (q : Query) (o : Option (List (List ℕ))) (way : List ℕ) (sets : List Bits) (low : ℕ)
     (rising : Bool)
-    → Ends nand nor page g q o way sets good low → Known o rising → good ≡ true
-good_known nand nor page g q o way sets true low rising e k = refl
-good_known nand nor page g q o way sets false low rising e k = let z : some k.rows ≡ none = sym k.are ∙ e.damage refl in cc
-
-pub known_hand : (nand nor page : List ℕ) (g : Log) (q : Query) (o : Option (List (List ℕ))) (way sets : List ℕ) (low : ℕ)
-    (rising : Bool) {good : Bool}
-    → Ends nand nor page g q o way sets good low → good ≡ true → Known o rising → InHand nand nor page g q o way sets low rising
-known_hand nand nor page g q o way sets low rising e t k =
-    let same : k.rows ≡ rows_held nand page g way sets low = some_same (sym k.are ∙ e.rows t) in
-    record { held = e.held t; rows = e.rows t; rises = λ r. rw (← same) (k.rises r) }
+    → Whole nand nor page g q o way sets low → Known o rising → InHand nand nor page g q o way sets low rising
+known_hand nand nor page g q o way sets low rising e k =
+    let same : k.rows ≡ rows_held nand page g way sets low = some_same (sym k.are ∙ e.rows) in
+    record { held = e.held; rows = e.rows; rises = λ r. rw (← same) (k.rises r) }
 
 module _ (nand1 nor1 page1 : List ℕ) (g1 : Log) (q : Query) (o1 : Option (List (List ℕ))) (way1 : List ℕ) (low1 : ℕ) (rising : Bool)
     (first : Lends nand1 nor1 page1 g1 q o1 way1 low1 rising)
-    (nand2 nor2 page2 : List ℕ) (g2 : Log) (o2 : Option (List (List ℕ))) (way2 free : List ℕ) (low2 : ℕ)
+    (nand2 nor2 page2 : List ℕ) (g2 : Log) (o2 : Option (List (List ℕ))) (way2 : List ℕ) (free : List Bits) (low2 : ℕ)
     (second : InHand nand2 nor2 page2 g2 q o2 way2 free low2 rising) (rows : ℕ) (area new : List ℕ) (n : ℕ)
     (j : Joined nand2 page2 g2 way2 rising rows (lent_rows nand1 nor1 page1 g1 q way1 low1) free low2 area new n) where
   abbrev rows1 : List (List ℕ)

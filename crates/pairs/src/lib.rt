@@ -5,11 +5,11 @@ pub mod pieces;
 
 ghost use Rattle.std.specs.Prelude.{◌≡◌};
 ghost use Rattle.store.specs.World.{world};
-ghost use Rattle.pairs.specs.Answers.{PairsAnswer};
 ghost use Rattle.pairs.specs.Call.{pairs_outcome};
+ghost use Rattle.pairs.specs.Inner.Hands.{answered};
 
 use form::Form;
-use pieces::Paired;
+use grounds::Ground;
 use store::State;
 
 pub fn pairs(
@@ -22,10 +22,10 @@ pub fn pairs(
     nor2: &[u8],
     slots2: u64,
     area: &mut [u8],
-) -> Paired
-    ensures { ◌≡◌ {A = PairsAnswer} (record { number = result.number; count = result.count; area = area.new })
-        (pairs_outcome (world nand1.now nor1.now first) slots1
-        (world nand2.now nor2.now second) slots2 area.old) }
+) -> Result<u64, Ground>
+    ensures { answered result area.new
+        ≡ pairs_outcome (world nand1.now nor1.now first) slots1
+        (world nand2.now nor2.now second) slots2 area.old }
 {
     let n1 = first.ground(Form::New, 0, nand1.len(), nor1.len(), slots1);
     let n2 = second.ground(Form::New, 0, nand2.len(), nor2.len(), slots2);

@@ -1,7 +1,6 @@
 // The pieces of a call for pairs that the calls over byte areas share: what is asked of two logs and two pages, once grounds 1 to 3 of
 // each store are known. They are no calls: they ask what their callers show.
-ghost use Rattle.std.specs.Prelude.{◌≡◌, true, false, ℕ, ◌*◌, ◌≤◌, ◌<◌, length};
-ghost use Rattle.std.proofs.Math.Option.{none};
+ghost use Rattle.std.specs.Prelude.{◌≡◌, ℕ, ◌*◌, ◌≤◌, ◌<◌, length, IfOk, IfErr};
 ghost use Rattle.flash.specs.Chip.{page_width};
 ghost use Rattle.form.specs.declared.Form.TheVariants.{New};
 ghost use Rattle.lift.specs.Limits.{time_limit, load_least, load_most};
@@ -12,45 +11,28 @@ ghost use Rattle.store.specs.declared.State.{State};
 ghost use Rattle.store.specs.World.{world};
 ghost use Rattle.store.specs.Inner.Pieces.{bounds_ground};
 ghost use Rattle.questions.specs.Queries.{log_of, query_of};
+ghost use Rattle.each_segment.specs.Inner.Turns.{IsDamage};
 ghost use Rattle.whole_log.specs.Inner.Held.{Room};
-ghost use Rattle.pairs.specs.Answers.{PairsAnswer, pairs_answer};
+ghost use Rattle.pairs.specs.Answers.{pairs_answer};
+ghost use Rattle.grounds.specs.Numbers.{number_in};
 ghost use Rattle.pairs.specs.Call.{pairs_outcome};
-ghost use Rattle.pairs.specs.Inner.Hands.{InHand, Lends, Known, Writes};
+ghost use Rattle.pairs.specs.Inner.Hands.{InHand, Lends, Known, Writes, answered};
 
+use bitset::Bits;
+use grounds::Ground;
 use visit::{Log, Query};
-
-// Ground 10: damage is met; ground 16: the pairs outnumber the whole 64-byte rows of their area.
-const DAMAGE: u8 = 10;
-
-const TOO_SMALL: u8 = 16;
 
 // Both records of a pair.
 const PAIR_BYTES: usize = 64;
 
-// S + 1 segments at most, a slot and five words for each.
+// S + 1 segments at most, a slot and a set for each.
 const SEGMENTS: usize = 4097;
 
-const WORDS: usize = 20485;
-
-// The number, and how many pairs there are.
-#[derive(Clone, Copy)]
-pub struct Paired {
-    pub number: u8,
-    pub count: u64,
-}
-
-// A log in hand: whether no damage was met, its oldest segment, and whether its times never fall.
+// A log in hand: its oldest segment, and whether its times never fall.
 #[derive(Clone, Copy)]
 struct Hand {
-    good: bool,
     low: usize,
     rising: bool,
-}
-
-fn refused(number: u8) -> Paired
-    ensures { result ≡ record { number = number; count = 0 } }
-{
-    Paired { number, count: 0 }
 }
 
 // A search over all times and loads.
@@ -72,32 +54,18 @@ fn take_in_hand(
     g: Log,
     q: Query,
     way: &mut [u16],
-    sets: &mut [u64],
-) -> Hand
+    sets: &mut [Bits],
+) -> Result<Hand, Ground>
     requires log_sound { LogSound nand.now nor.now g × Room g way.old sets.old }
     requires page_len { (length page.now ≡ page_width) × (1 ≤ q.k1) }
-    ensures good { result.good ≡ true → InHand nand.now nor.now page.now g q
+    ensures hand { IfOk result (λ h. InHand nand.now nor.now page.now g q
         (found_rows nand.now nor.now page.now g (serials_from g.oldest) q)
-        way.new sets.new result.low result.rising }
-    ensures damage { result.good ≡ false
-        → found_rows nand.now nor.now page.now g (serials_from g.oldest) q ≡ none }
+        way.new sets.new h.low h.rising) }
+    ensures damage { IfErr result (IsDamage (found_rows nand.now nor.now page.now g (serials_from g.oldest) q)) }
 {
-    let a = whole_log::gather(nand, nor, page, g, q, way, sets);
-    let low = a.low;
-    let good = a.good;
-    if !good {
-        return Hand {
-            good: false,
-            low,
-            rising: false,
-        };
-    }
+    let low = whole_log::gather(nand, nor, page, g, q, way, sets)?;
     let rising = whole_log::rise::rises(nand, page, g, way, sets, low);
-    Hand {
-        good: true,
-        low,
-        rising,
-    }
+    Ok(Hand { low, rising })
 }
 
 // The sets of the second log are made anew, and the pairs written: `rows` is at least as many as there are.
@@ -116,7 +84,7 @@ fn write_pairs(
     page2: &[u8],
     g2: Log,
     way2: &mut [u16],
-    free: &mut [u64],
+    free: &mut [Bits],
     rising: bool,
 )
     requires log_sound { LogSound nand1.now nor1.now g1 × (length page1.now ≡ page_width) }
@@ -130,12 +98,12 @@ fn write_pairs(
         (found_rows nand2.now nor2.now page2.now g2 (serials_from g2.oldest) q) rows
         area.old area.new }
 {
-    let c = whole_log::gather(nand2, nor2, page2, g2, q, way2, free);
-    let low2 = c.low;
-    let n = joining::join_all(
-        area, rows, nand1, nor1, page1, g1, q, way1, low1, nand2, page2, g2, way2, free, low2,
-        rising,
-    );
+    if let Ok(low2) = whole_log::gather(nand2, nor2, page2, g2, q, way2, free) {
+        joining::join_all(
+            area, rows, nand1, nor1, page1, g1, q, way1, low1, nand2, page2, g2, way2, free, low2,
+            rising,
+        );
+    }
 }
 
 // Ground 16, then the pairs of two logs in hand: counted, and then written in a second pass.
@@ -153,10 +121,10 @@ fn list_pairs(
     page2: &[u8],
     g2: Log,
     way2: &mut [u16],
-    free: &mut [u64],
+    free: &mut [Bits],
     low2: usize,
     rising: bool,
-) -> Paired
+) -> Result<u64, Ground>
     requires log_sound { LogSound nand1.now nor1.now g1 × (length page1.now ≡ page_width) }
     requires slots_in_bounds { (g1.slots < length way1.now) × (g1.slots ≤ 4096) × (1 ≤ q.k1) }
     requires lends { Lends nand1.now nor1.now page1.now g1 q
@@ -164,23 +132,22 @@ fn list_pairs(
     requires log_sound_2 { LogSound nand2.now nor2.now g2 × Room g2 way2.old free.old × (length page2.now ≡ page_width) }
     requires in_hand { InHand nand2.now nor2.now page2.now g2 q
         (found_rows nand2.now nor2.now page2.now g2 (serials_from g2.oldest) q) way2.old free.old low2 rising }
-    ensures { ◌≡◌ {A = PairsAnswer} (record { number = result.number; count = result.count; area = area.new })
-        (pairs_answer area.old
+    ensures { answered result area.new ≡ pairs_answer area.old
         (found_rows nand1.now nor1.now page1.now g1 (serials_from g1.oldest) q)
-        (found_rows nand2.now nor2.now page2.now g2 (serials_from g2.oldest) q)) }
+        (found_rows nand2.now nor2.now page2.now g2 (serials_from g2.oldest) q) }
 {
     let count = joining::join_all(
         area, 0, nand1, nor1, page1, g1, q, way1, low1, nand2, page2, g2, way2, free, low2, rising,
     );
     let rows = (area.len() / PAIR_BYTES) as u64;
     if rows < count {
-        return refused(TOO_SMALL);
+        return Err(Ground::ManyPairs);
     }
     write_pairs(
         area, rows, nand1, nor1, page1, g1, q, way1, low1, nand2, nor2, page2, g2, way2, free,
         rising,
     );
-    Paired { number: 0, count }
+    Ok(count)
 }
 
 // Both logs are taken in hand: ground 10 of the first, of the second, then their pairs.
@@ -196,27 +163,18 @@ fn pair_up(
     q: Query,
     way1: &mut [u16],
     way2: &mut [u16],
-    free: &mut [u64],
+    free: &mut [Bits],
     area: &mut [u8],
-) -> Paired
+) -> Result<u64, Ground>
     requires log_sound { LogSound nand1.now nor1.now g1 × Room g1 way1.old free.old × (length page1.now ≡ page_width) }
     requires log_sound_2 { LogSound nand2.now nor2.now g2 × Room g2 way2.old free.old × (length page2.now ≡ page_width) }
     requires le_k1 { 1 ≤ q.k1 }
-    ensures { ◌≡◌ {A = PairsAnswer} (record { number = result.number; count = result.count; area = area.new })
-        (pairs_answer area.old
+    ensures { answered result area.new ≡ pairs_answer area.old
         (found_rows nand1.now nor1.now page1.now g1 (serials_from g1.oldest) q)
-        (found_rows nand2.now nor2.now page2.now g2 (serials_from g2.oldest) q)) }
+        (found_rows nand2.now nor2.now page2.now g2 (serials_from g2.oldest) q) }
 {
-    let a = take_in_hand(nand1, nor1, page1, g1, q, way1, free);
-    let good1 = a.good;
-    if !good1 {
-        return refused(DAMAGE);
-    }
-    let b = take_in_hand(nand2, nor2, page2, g2, q, way2, free);
-    let good2 = b.good;
-    if !good2 {
-        return refused(DAMAGE);
-    }
+    let a = take_in_hand(nand1, nor1, page1, g1, q, way1, free)?;
+    let b = take_in_hand(nand2, nor2, page2, g2, q, way2, free)?;
     let rising = a.rising & b.rising;
     list_pairs(
         area, nand1, nor1, page1, g1, q, way1, a.low, nand2, nor2, page2, g2, way2, free, b.low,
@@ -227,8 +185,8 @@ fn pair_up(
 // What grounds 1 to 3 gave of two states whose logs and pages these are, then their pairs. The sets and slots are on the stack of this
 // call alone.
 pub fn pairs_from(
-    n1: u8,
-    n2: u8,
+    n1: Result<(), Ground>,
+    n2: Result<(), Ground>,
     page1: &[u8],
     g1: Log,
     nand1: &[u8],
@@ -238,24 +196,20 @@ pub fn pairs_from(
     nand2: &[u8],
     nor2: &[u8],
     area: &mut [u8],
-) -> Paired
-    requires log_sound { (n1 ≡ 0 → LogSound nand1.now nor1.now g1 × (g1.slots ≤ 4096)) × (length page1.now ≡ page_width) }
-    requires log_sound_2 { (n2 ≡ 0 → LogSound nand2.now nor2.now g2 × (g2.slots ≤ 4096)) × (length page2.now ≡ page_width) }
+) -> Result<u64, Ground>
+    requires log_sound { (number_in n1 ≡ 0 → LogSound nand1.now nor1.now g1 × (g1.slots ≤ 4096)) × (length page1.now ≡ page_width) }
+    requires log_sound_2 { (number_in n2 ≡ 0 → LogSound nand2.now nor2.now g2 × (g2.slots ≤ 4096)) × (length page2.now ≡ page_width) }
     ensures { (s1 s2 : State) (slots1 slots2 : ℕ)
-        → n1 ≡ bounds_ground New s1 0 (length nand1.now) (length nor1.now) slots1
-        → n2 ≡ bounds_ground New s2 0 (length nand2.now) (length nor2.now) slots2
+        → number_in n1 ≡ bounds_ground New s1 0 (length nand1.now) (length nor1.now) slots1
+        → number_in n2 ≡ bounds_ground New s2 0 (length nand2.now) (length nor2.now) slots2
         → g1 ≡ log_of s1 slots1 → page1.now ≡ s1.page → g2 ≡ log_of s2 slots2 → page2.now ≡ s2.page
-        → ◌≡◌ {A = PairsAnswer} (record { number = result.number; count = result.count; area = area.new })
-        (pairs_outcome (world nand1.now nor1.now s1) slots1 (world nand2.now nor2.now s2) slots2
-        area.old) }
+        → answered result area.new ≡ pairs_outcome (world nand1.now nor1.now s1) slots1 (world nand2.now nor2.now s2) slots2
+        area.old }
 {
-    let n = bounds::sooner(n1, n2);
-    if n != 0 {
-        return refused(n);
-    }
+    bounds::sooner(n1, n2)?;
     let mut way1 = [0u16; SEGMENTS];
     let mut way2 = [0u16; SEGMENTS];
-    let mut free = [0u64; WORDS];
+    let mut free = [Bits { words: [0; 5] }; SEGMENTS];
     let q = everything();
     pair_up(
         page1, g1, nand1, nor1, page2, g2, nand2, nor2, q, &mut way1, &mut way2, &mut free, area,

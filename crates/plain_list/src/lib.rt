@@ -1,14 +1,18 @@
-// The paper log of document 01 ("Paper log"; W-202) as a plain list, for test programs: it shares no code with the store. The list stands on
-// a lent sheet of numbers; the calls' numbers, serials, counts and next time are in `PlainLog`, by value. Loads are stored numbers.
+// The paper log of document 01 ("Paper log"; W-202) as a plain list, for test programs: it shares no code with the store. The list of
+// lifts stands on a lent sheet; all else is in `PlainLog`, by value. Loads are stored numbers.
 #![tactic(auto)]
 
+ghost use Rattle.std.specs.Prelude.{◌≤◌, length, IfOk};
+
+mod ground;
+mod lifts;
 mod notes;
 mod plain_tree;
-mod rows;
-mod sheet;
 
-pub use notes::{note_byte, note_of};
-pub use rows::Query;
+pub use ground::Ground;
+pub use lifts::{Lift, Query, lift_at};
+pub use notes::note_of;
+pub use plain_tree::Tree;
 
 // "a time (ms, 0 to 999,999,999,999,999)"
 pub const TIME_LIMIT: u64 = 999999999999999;
@@ -28,13 +32,29 @@ pub struct PlainLog {
     pub current: u32,
     // Of the open serial.
     pub count: u32,
-    pub buckets: u32,
+    pub tree: Tree,
     // The last accepted time, 0 before there is one.
     pub next: u64,
     // Of all serials held.
-    pub lifts: u32,
+    pub lifts: usize,
     // Of serials that went.
     pub gone: u64,
+}
+
+fn time_in_limits(time: u64) -> Result<(), Ground> {
+    if time <= TIME_LIMIT {
+        Ok(())
+    } else {
+        Err(Ground::Time)
+    }
+}
+
+fn code_in_limits(code: u64) -> Result<u32, Ground> {
+    if CODE_MIN <= code && code <= CODE_MAX {
+        Ok(code as u32)
+    } else {
+        Err(Ground::Load)
+    }
 }
 
 impl PlainLog {
@@ -45,184 +65,173 @@ impl PlainLog {
             oldest: 1,
             current: 1,
             count: 0,
-            buckets: 0,
+            tree: Tree::new(),
             next: 0,
             lifts: 0,
             gone: 0,
         }
     }
 
-    // The first ground of an append that holds, or 0.
-    pub fn append_ground(self, slots: u64, time: u64, code: u64) -> u8 {
-        if slots != self.slots {
-            return 1;
+    fn has_slots(&self, slots: u64) -> Result<(), Ground> {
+        if slots == self.slots {
+            Ok(())
+        } else {
+            Err(Ground::Slots)
         }
-        if TIME_LIMIT < time {
-            return 4;
-        }
-        if (code < CODE_MIN) | (CODE_MAX < code) {
-            return 5;
-        }
+    }
+
+    // The list after an append, whose load is a stored one.
+    pub fn append(
+        self,
+        sheet: &mut [Lift],
+        slots: u64,
+        time: u64,
+        code: u64,
+    ) -> Result<PlainLog, Ground> {
+        self.has_slots(slots)?;
+        time_in_limits(time)?;
+        let code = code_in_limits(code)?;
         if time < self.next {
-            return 7;
+            return Err(Ground::Earlier);
         }
         if LAST_SERIAL <= self.current {
-            return 8;
+            return Err(Ground::Serial);
         }
-        0
-    }
-
-    pub fn close_ground(self, slots: u64) -> u8 {
-        if slots != self.slots {
-            return 1;
-        }
-        if self.count == 0 {
-            return 9;
-        }
-        0
-    }
-
-    pub fn drop_ground(self, slots: u64) -> u8 {
-        if slots != self.slots {
-            return 1;
-        }
-        if self.oldest == self.current {
-            return 9;
-        }
-        0
-    }
-
-    // Grounds 1 to 6 of a search, or of a tally, which asks for all loads; ground 12 is `too_small`.
-    pub fn query_ground(self, slots: u64, q: Query) -> u8 {
-        if slots != self.slots {
-            return 1;
-        }
-        if (TIME_LIMIT < q.t1) | (TIME_LIMIT < q.t2) {
-            return 4;
-        }
-        if (q.k1 < CODE_MIN) | (CODE_MAX < q.k1) {
-            return 5;
-        }
-        if (q.k2 < CODE_MIN) | (CODE_MAX < q.k2) {
-            return 5;
-        }
-        if (q.t2 < q.t1) | (q.k2 < q.k1) {
-            return 6;
-        }
-        0
+        let log = if self.closes_first(code) {
+            self.closed()
+        } else {
+            self
+        };
+        Ok(log.with_lift(sheet, time, code))
     }
 
     // "if open serial n has 320 lifts, or its loads and then the new one need bucket 36"
-    pub fn closes_first(self, sheet: &[u64], code: u64) -> bool {
-        if self.count == LIFTS_PER_SERIAL {
-            return true;
-        }
-        plain_tree::needs_more(sheet, self.buckets, code)
-    }
-
-    // An accepted append.
-    pub fn append(self, sheet: &mut [u64], time: u64, code: u64) -> PlainLog {
-        if self.closes_first(sheet, code) {
-            return self.close().put(sheet, time, code);
-        }
-        self.put(sheet, time, code)
+    fn closes_first(&self, code: u32) -> bool {
+        self.count == LIFTS_PER_SERIAL || self.tree.needs_more(code)
     }
 
     // "The lift goes last into the open serial, m; m − S goes, if held."
-    fn put(self, sheet: &mut [u64], time: u64, code: u64) -> PlainLog {
-        let log = self.without_far(sheet);
-        rows::put(sheet, log.lifts, time, code, log.current as u64);
-        let buckets = plain_tree::insert(sheet, log.buckets, log.lifts, code);
+    fn with_lift(self, sheet: &mut [Lift], time: u64, code: u32) -> PlainLog {
+        let far = u64::from(self.current).saturating_sub(self.slots);
+        let log = if u64::from(self.oldest) <= far {
+            self.without_oldest(sheet)
+        } else {
+            self
+        };
+        let mut tree = log.tree;
+        tree.insert(code, lifts::last_sums(sheet, log.lifts));
+        let serial = log.current;
+        lifts::put(sheet, log.lifts, Lift { time, code, serial });
         PlainLog {
-            slots: log.slots,
-            oldest: log.oldest,
-            current: log.current,
-            count: sheet::one_more(log.count),
-            buckets,
+            count: log.count.saturating_add(1),
+            tree,
             next: time,
-            lifts: sheet::one_more(log.lifts),
-            gone: log.gone,
+            lifts: log.lifts.saturating_add(1),
+            ..log
         }
     }
 
-    // Without serial m − S, if it is held.
-    fn without_far(self, sheet: &mut [u64]) -> PlainLog {
-        if (self.oldest as u64) <= plain_rules::less(self.current as u64, self.slots) {
-            return self.drop(sheet);
+    pub fn close(self, slots: u64) -> Result<PlainLog, Ground> {
+        self.has_slots(slots)?;
+        if self.count == 0 {
+            return Err(Ground::Nothing);
         }
-        self
+        Ok(self.closed())
     }
 
-    // An accepted close: "the open serial closes, the next opens."
-    pub fn close(self) -> PlainLog {
+    // "The open serial closes, the next opens."
+    fn closed(self) -> PlainLog {
         PlainLog {
-            slots: self.slots,
-            oldest: self.oldest,
-            current: sheet::one_more(self.current),
+            current: self.current.saturating_add(1),
             count: 0,
-            buckets: 0,
-            next: self.next,
-            lifts: self.lifts,
-            gone: self.gone,
+            tree: Tree::new(),
+            ..self
         }
     }
 
-    // An accepted drop: "the oldest closed serial goes."
-    pub fn drop(self, sheet: &mut [u64]) -> PlainLog {
-        let going = rows::end_of_serial(sheet, self.lifts, self.oldest);
-        let left = rows::without_first(sheet, self.lifts, going);
+    pub fn drop(self, sheet: &mut [Lift], slots: u64) -> Result<PlainLog, Ground> {
+        self.has_slots(slots)?;
+        if self.oldest == self.current {
+            return Err(Ground::Nothing);
+        }
+        Ok(self.without_oldest(sheet))
+    }
+
+    // "The oldest closed serial goes."
+    fn without_oldest(self, sheet: &mut [Lift]) -> PlainLog {
+        let oldest = self.oldest;
+        let lifts = self.lifts;
+        let going = self
+            .held(sheet)
+            .iter()
+            .position(|lift| oldest < lift.serial)
+            .unwrap_or(lifts);
+        lifts::move_down(sheet, going, lifts);
         PlainLog {
-            slots: self.slots,
-            oldest: sheet::one_more(self.oldest),
-            current: self.current,
-            count: self.count,
-            buckets: self.buckets,
-            next: self.next,
-            lifts: left,
-            gone: sheet::plus(self.gone, going as u64),
+            oldest: oldest.saturating_add(1),
+            lifts: lifts.saturating_sub(going),
+            gone: self.gone.saturating_add(going as u64),
+            ..self
         }
     }
 
-    // How many lifts an accepted search finds.
-    pub fn found(self, sheet: &[u64], q: Query) -> u32 {
-        rows::count(sheet, self.lifts, q)
+    // The lifts of the list.
+    pub fn held<'a>(&self, sheet: &'a [Lift]) -> &'a [Lift]
+        ensures { length result.now ≤ self.now.lifts }
+    {
+        &sheet[..self.lifts.min(sheet.len())]
     }
 
-    // Ground 12.
-    pub fn too_small(self, sheet: &[u64], q: Query, rows: u64) -> bool {
-        rows < self.found(sheet, q) as u64
+    // Grounds 1 to 6 of a search, or of a tally, which asks for all loads.
+    pub fn ask(&self, slots: u64, q: Query) -> Result<(), Ground> {
+        self.has_slots(slots)?;
+        time_in_limits(q.t1)?;
+        time_in_limits(q.t2)?;
+        code_in_limits(q.k1)?;
+        code_in_limits(q.k2)?;
+        if q.t2 < q.t1 || q.k2 < q.k1 {
+            Err(Ground::Ends)
+        } else {
+            Ok(())
+        }
     }
 
-    // The place of the next lift that a search finds, from place `from` on.
-    pub fn next_found(self, sheet: &[u64], q: Query, from: u32) -> u32 {
-        rows::next(sheet, self.lifts, q, from)
+    // How many lifts a search finds that has room for so many rows.
+    pub fn search(&self, sheet: &[Lift], slots: u64, q: Query, rows: usize) -> Result<usize, Ground>
+        ensures { IfOk result (λ found. found ≤ rows) }
+    {
+        self.ask(slots, q)?;
+        let found = self.found(sheet, q);
+        if rows < found {
+            Err(Ground::TooSmall)
+        } else {
+            Ok(found)
+        }
     }
 
-    // How many lifts of a window have this plate.
-    pub fn of_plate(self, sheet: &[u64], q: Query, plate: u64) -> u32 {
-        rows::of_plate(sheet, self.lifts, q, plate)
+    // How many lifts a query finds.
+    pub fn found(&self, sheet: &[Lift], q: Query) -> usize {
+        self.held(sheet)
+            .iter()
+            .filter(|lift| q.finds(**lift))
+            .count()
     }
 
-    // A stored load by which the open serial needs bucket 36 soonest.
-    pub fn splitting_code(self, sheet: &[u64]) -> u64 {
-        plain_tree::splitting_code(sheet, self.buckets)
+    // How many of them have this plate.
+    pub fn of_plate(&self, sheet: &[Lift], q: Query, plate: u64) -> usize {
+        self.held(sheet)
+            .iter()
+            .filter(|lift| q.finds(**lift) && plain_rules::plate_of(u64::from(lift.code)) == plate)
+            .count()
     }
 
-    // Time and stored load of the lift at a place of the list.
-    pub fn time_at(self, sheet: &[u64], place: u32) -> u64 {
-        rows::time(sheet, place)
+    // The number since the log began, from 0, of the lift at a place of the list: lifts at one time differ in it. The place after the
+    // last has the next lift's.
+    pub fn number_at(&self, place: usize) -> u64 {
+        self.gone.saturating_add(place as u64)
     }
 
-    pub fn code_at(self, sheet: &[u64], place: u32) -> u64 {
-        rows::code(sheet, place)
-    }
-
-    // Its number since the log began, from 0: lifts at one time differ in it. The place after the last has the next lift's.
-    pub fn number_at(self, place: u32) -> u64 {
-        sheet::plus(self.gone, place as u64)
-    }
-
-    pub fn next_number(self) -> u64 {
+    pub fn next_number(&self) -> u64 {
         self.number_at(self.lifts)
     }
 }

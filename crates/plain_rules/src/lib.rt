@@ -2,7 +2,7 @@
 // and the mid of a range. It shares no code with the store.
 #![tactic(auto)]
 
-ghost use Rattle.std.specs.Prelude.{◌≡◌, ◌+◌, ◌-◌, ◌*◌, ◌/◌, ◌^◌, ◌≤◌, ◌<◌};
+ghost use Rattle.std.specs.Prelude.{◌≡◌, ◌+◌, ◌*◌, ◌^◌, ◌≤◌, ◌<◌};
 
 // Loads 250 and 10,250 as stored, and the kilograms of a plate: 5.
 const PLATE_0_TOP: u64 = 50251;
@@ -21,12 +21,20 @@ pub fn plate_of(code: u64) -> u64
     ensures result_bound { 50251 < code → code ≤ 60251 → (500 * result + 49751 < code) × (code ≤ 500 * result + 50251) }
 {
     if code <= PLATE_0_TOP {
-        return 0;
+        0
+    } else if code <= PLATE_20_TOP {
+        (code - 49752) / PLATE_LOADS
+    } else {
+        BEYOND_STACK
     }
-    if PLATE_20_TOP < code {
-        return BEYOND_STACK;
-    }
-    (code - 49752) / PLATE_LOADS
+}
+
+// Of the last 13 loads, raised: A, their sum, and the sum of each times its place from 0, which is D and 6A more.
+#[derive(Clone, Copy)]
+pub struct Sums {
+    pub all: u64,
+    pub placed: u64,
+    ghost bounded: { (all ≤ 13 * 2 ^ 33) × (placed ≤ 169 * 2 ^ 33) },
 }
 
 // l and h, raised.
@@ -34,95 +42,62 @@ pub fn plate_of(code: u64) -> u64
 pub struct Fit {
     pub low: u64,
     pub high: u64,
+    ghost bounded: { (low < 2 ^ 40) × (high < 2 ^ 40) },
 }
 
-// a − b, and 0 where b is more.
-pub fn less(a: u64, b: u64) -> u64
-    ensures { result ≡ a - b }
-{
-    if b <= a {
-        return a - b;
-    }
-    0
-}
-
-// The fitted values, where A is the sum of the last 13 loads and D their placed sum less 6A; the smaller rounded down, the larger up.
-pub fn fitted(all: u64, placed: u64) -> Fit
-    requires { (all ≤ 13 * 2 ^ 33) × (placed ≤ 169 * 2 ^ 33) }
-    ensures { (result.low < 2 ^ 40) × (result.high < 2 ^ 40) }
-{
-    let p = less(7 * placed, 28 * all);
-    let q = less(32 * placed, 178 * all);
-    if p < q {
-        return Fit {
-            low: p / FIT_PARTS,
-            high: (q + FIT_PARTS - 1) / FIT_PARTS,
-        };
-    }
-    Fit {
-        low: q / FIT_PARTS,
-        high: (p + FIT_PARTS - 1) / FIT_PARTS,
-    }
-}
-
-// "Mid is the first that applies, halves rounded down", before it is brought into the range.
-fn rule(x: u64, y: u64, f: Fit) -> u64
-    requires { (x < 2 ^ 32) × ((y < 2 ^ 32) × ((f.low < 2 ^ 40) × (f.high < 2 ^ 40))) }
-{
-    let l = f.low;
-    let h = f.high;
-    let half = (x + y) / 2;
-    if (x < l) & (h < y) {
-        return (l + h) / 2;
-    }
-    if (l <= x) & (y <= h) {
-        return half;
-    }
-    if (l <= x) & ((x < h) & (h <= y)) {
-        // 2(h−x) > h−l
-        if 2 * x < h + l {
-            return (x + h) / 2;
+impl Sums {
+    // The fitted values: the smaller rounded down, the larger up.
+    pub fn fitted(self) -> Fit {
+        let p = (7 * self.placed).saturating_sub(28 * self.all);
+        let q = (32 * self.placed).saturating_sub(178 * self.all);
+        Fit {
+            low: p.min(q) / FIT_PARTS,
+            high: p.max(q).div_ceil(FIT_PARTS),
         }
-        return larger(h, half);
     }
-    if (x <= l) & ((l < y) & (y <= h)) {
-        // 2(y−l) > h−l
-        if h + l < 2 * y {
-            return (l + y) / 2;
+}
+
+impl Fit {
+    // "Mid is the first that applies, halves rounded down", before it is brought into the range.
+    fn rule(self, x: u64, y: u64) -> u64
+        requires { (x < 2 ^ 32) × (y < 2 ^ 32) }
+    {
+        let l = self.low;
+        let h = self.high;
+        let half = (x + y) / 2;
+        if x < l && h < y {
+            (l + h) / 2
+        } else if l <= x && y <= h {
+            half
+        } else if l <= x && x < h && h <= y {
+            // 2(h−x) > h−l
+            if 2 * x < h + l {
+                (x + h) / 2
+            } else {
+                h.max(half)
+            }
+        } else if x <= l && l < y && y <= h {
+            // 2(y−l) > h−l
+            if h + l < 2 * y {
+                (l + y) / 2
+            } else {
+                l.min(half)
+            }
+        } else {
+            half
         }
-        return smaller(l, half);
     }
-    half
-}
 
-fn larger(a: u64, b: u64) -> u64 {
-    if a < b {
-        return b;
+    // "Then it is brought into x+1..y−1; if y=x+1, mid is y"
+    pub fn mid(self, x: u32, y: u32) -> u32
+        ensures { x < y → (x < result) × (result ≤ y) }
+    {
+        let lower = u64::from(x);
+        let upper = u64::from(y);
+        if upper <= lower + 1 {
+            return y;
+        }
+        let mid = self.rule(lower, upper);
+        mid.clamp(lower + 1, upper - 1) as u32
     }
-    a
-}
-
-fn smaller(a: u64, b: u64) -> u64 {
-    if a < b {
-        return a;
-    }
-    b
-}
-
-// "Then it is brought into x+1..y−1; if y=x+1, mid is y"
-pub fn mid_of(x: u64, y: u64, f: Fit) -> u64
-    requires { (x < 2 ^ 32) × ((y < 2 ^ 32) × ((f.low < 2 ^ 40) × (f.high < 2 ^ 40))) }
-    ensures { x < y → (x < result) × (result ≤ y) }
-{
-    if y <= x + 1 {
-        return y;
-    }
-    let m = rule(x, y, f);
-    if m <= x {
-        return x + 1;
-    }
-    if y <= m {
-        return y - 1;
-    }
-    m
 }

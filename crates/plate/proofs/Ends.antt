@@ -1,8 +1,8 @@
 -- The ends of a stack's bands (document 02, W-205 and W-206): each is the sum above the next plate and half of it, the last the full sum
 -- and half of the last plate; they rise strictly, and one run down the stack gives them all. Assumes nothing.
-use mathlib.Core.Path.{◌≡◌, refl, ap, subst}
+use mathlib.Core.Path.{◌≡◌, refl, sym, ap, subst}
 use mathlib.Core.Bool.{true, ◌&&◌}
-use mathlib.Core.List.{List, [], ◌∷◌, ◌++◌, append_assoc}
+use mathlib.Core.List.{List, [], ◌∷◌, ◌++◌, map, append_assoc}
 use Prim.Native.Nat.{ℕ, zero, suc, ◌+◌, ◌-◌, ◌*◌, ◌/◌, ◌≤◌, ◌<◌}
 use native.Mathlib.Omega.{arith}
 use native.Mathlib.Decide.{dec_lt}
@@ -125,6 +125,17 @@ ends_running (p ∷ stack) =
     let a : 0 + p / 2 ≡ p / 2 = omega arith in
     let b : 0 + p ≡ p = omega arith in
     rw (a, b, ends_run [] p stack, s)
+
+-- a table for each stack of a list
+pub tables_of : (tables stacks : List (List ℕ)) → tables ≡ map (running 0 0) stacks → (n : ℕ) → n < length stacks
+    → get_or tables n [] ≡ ends_of (get_or stacks n [])
+tables_of tables stacks e n h = rw e (go stacks n h)
+  where
+    go : (stacks : List (List ℕ)) (n : ℕ) → n < length stacks
+        → get_or (map (running 0 0) stacks) n [] ≡ ends_of (get_or stacks n [])
+    go [] n h = absurd (omega arith)
+    go (stack ∷ stacks) zero h = sym (ends_running stack)
+    go (stack ∷ stacks) (suc n) h = go stacks n (omega arith)
 
 -- ---- equal plates
 

@@ -1,37 +1,56 @@
 -- The lookup: the turns down a table of ends, and its three answers. Assumes nothing.
 use mathlib.Core.Path.{◌≡◌, refl, sym, ◌∙◌}
-use mathlib.Core.Bool.{Bool, true, false}
+use mathlib.Core.Bool.{Bool, true, false, cond, not}
 use mathlib.Core.List.{List, [], ◌∷◌}
 use Prim.Native.Nat.{ℕ, suc, ◌+◌, ◌-◌, ◌≤◌, ◌<◌}
 use native.Mathlib.Omega.{arith}
-use borrow.Author.Tests.{lt-ltb, le-ltb, le-leb, lt-leb, leb-true, leb-false}
-use lib.Dec.{leb}
+use borrow.Author.Tests.{lt-ltb, le-ltb, le-leb, lt-leb, leb-true, leb-false, ltb-false}
+use lib.Dec.{leb, ltb}
 use lib.IntN.{ℤ, pos, sub_ℕ}
-use lib.ListN.{length, get_or, drop}
-use lib.Seq.{drop-cons, drop-length}
+use lib.ListN.{length, get_or}
 use lib.Signed.{le_z}
+use Rattle.std.specs.Prelude.{Some, None}
+use Rattle.std.specs.List.{position, position_or_len}
+use Rattle.std.proofs.lemmas.List.Sums.{prefix_len-le-length}
+use Rattle.std.specs.Option.{unwrap_or}
+use Rattle.std.specs.Result.{result_unwrap_or}
+use Rattle.std.specs.declared.result.Result.{Result}
+use Rattle.std.specs.declared.result.Result.TheVariants.{Ok, Err}
 use Rattle.lift.specs.Limits.{load_ok, load_of, stored}
 use Rattle.lift.proofs.Codes.{within_limits}
 use Rattle.plate.specs.Stack.{ends_of, plate_by, plate_on}
 use Rattle.plate.specs.Carried.{carried, lookup}
-use Rattle.plate.specs.declared.Lookup.{Lookup}
+use Rattle.grounds.specs.declared.Ground.{Ground}
+use Rattle.grounds.specs.Numbers.{number_in}
+use Rattle.plate.specs.Lookup.{Lookup}
+use Rattle.plate.specs.Inner.Found.{lookup_of}
 use Rattle.plate.proofs.StackBands.{up_to}
 
 -- ---- down a table
 
-module _ (ends : List ℕ) (i load : ℕ) where
-  pub up_to_this : i < length ends → load ≤ get_or ends i 0 → plate_by (drop i ends) (sub_ℕ load 0) ≡ 0
-  unfolding plate_by
-  up_to_this h l = rw (drop-cons ends i 0 h, up_to load 0 (get_or ends i 0), le-leb load (get_or ends i 0 + 0) (omega arith))
+first_or_all : (ends : List ℕ) (load : ℕ) → position_or_len (leb load) ends ≡ plate_by ends (sub_ℕ load 0)
+unfolding plate_by
+first_or_all [] load = refl
+first_or_all (end ∷ ends) load = rw (up_to load 0 end) (go (leb load end) refl (first_or_all ends load))
+  where
+    go : (t : Bool) → leb load end ≡ t → position_or_len (leb load) ends ≡ plate_by ends (sub_ℕ load 0)
+        → cond (not t) (1 + position_or_len (leb load) ends) 0 ≡ cond (leb load (end + 0)) 0 (suc (plate_by ends (sub_ℕ load 0)))
+    go true e rest = rw (le-leb load (end + 0) (omega (arith, leb-true load end e)))
+    go false e rest = rw (lt-leb load (end + 0) (omega (arith, leb-false load end e))) (omega arith)
 
-  pub past_this : i < length ends → get_or ends i 0 < load
-      → plate_by (drop i ends) (sub_ℕ load 0) ≡ suc (plate_by (drop (suc i) ends) (sub_ℕ load 0))
-  unfolding plate_by
-  past_this h l = rw (drop-cons ends i 0 h, up_to load 0 (get_or ends i 0), lt-leb load (get_or ends i 0 + 0) (omega arith))
+-- the first end that the load is not past, or all of them
+pub first_end : (ends : List ℕ) (load : ℕ) → unwrap_or (position (leb load) ends) (length ends) ≡ plate_by ends (sub_ℕ load 0)
+first_end ends load = go (ltb (position_or_len (leb load) ends) (length ends)) refl
+  where
+    n : ℕ
+    n = position_or_len (leb load) ends
 
-  pub past_all : length ends ≡ i → plate_by (drop i ends) (sub_ℕ load 0) ≡ 0
-  unfolding plate_by
-  past_all e = let d : drop i ends ≡ [] = rw (← e) (drop-length ends) in rw d
+    go : (t : Bool) → ltb n (length ends) ≡ t → unwrap_or (cond t (Some n) None) (length ends) ≡ plate_by ends (sub_ℕ load 0)
+    go true e = first_or_all ends load
+    go false e =
+        let few = prefix_len-le-length (λ x. not (leb load x)) ends in
+        let past = ltb-false n (length ends) e in
+        omega (arith, first_or_all ends load)
 
 -- ---- a load below zero counts as zero
 
@@ -69,3 +88,13 @@ module _ (place : ℕ) (load : ℤ) where
         → ◌≡◌ {A = Lookup} (record { number = 0; plate = p }) (lookup place load)
     unfolding lookup
     answered code p h ec ep = rw (e, lt-ltb place (length carried) h, ep, ec, (within_limits load e).load)
+
+-- ---- its number and its plate apart
+
+pub found_number : (r : Result ℕ Ground) → (lookup_of r).number ≡ number_in r
+found_number (Ok plate) = refl
+found_number (Err g) = refl
+
+pub found_plate : (r : Result ℕ Ground) → (lookup_of r).plate ≡ result_unwrap_or r 0
+found_plate (Ok plate) = refl
+found_plate (Err g) = refl

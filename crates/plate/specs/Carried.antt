@@ -1,7 +1,7 @@
 -- The stacks that are carried, and the lookup by a stack's place (document 02, W-205). Assumes nothing.
 use Rattle.std.specs.Prelude.{cond, List, [], ◌∷◌, ◌++◌, ℕ, ltb, ℤ, length, get_or, replicate}
 use Rattle.lift.specs.Limits.{load_ok}
-use Rattle.plate.specs.declared.Lookup.{Lookup}
+use Rattle.plate.specs.Lookup.{Lookup}
 use Rattle.plate.specs.Stack.{plate_on}
 use Rattle.plate.specs.Plate.{twenty_of500}
 

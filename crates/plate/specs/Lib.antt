@@ -1,3 +1,4 @@
+pub mod Lookup
 pub mod Total
 pub mod Stack
 pub mod Plate

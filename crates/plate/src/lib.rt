@@ -9,14 +9,12 @@ ghost use Rattle.std.proofs.Math.IntN.{sub_ℕ};
 ghost use Rattle.lift.specs.Limits.{load_of, load_shift};
 ghost use Rattle.plate.specs.Plate.{plate_of, no_counts};
 ghost use Rattle.plate.specs.Carried.{lookup};
+ghost use Rattle.plate.specs.Inner.Found.{lookup_of};
 
+use grounds::Ground;
 use lift::CODE_OF_ZERO;
 
 pub const PLATES: usize = 22;
-// Ground 5: a load is past its limit.
-const LOAD_PAST_LIMIT: u8 = 5;
-// Ground 15: no stack is carried at this place.
-const NO_SUCH_STACK: u8 = 15;
 // The whole 512s in a load number its plate or the one below it: a band is 500 wide, and in twenty of them 512 falls behind by less
 // than half a band. With twenty-one 512s a load is past every end.
 const NEAR: u32 = 512;
@@ -26,13 +24,6 @@ const PAST_ENDS: u32 = CODE_OF_ZERO + 21 * NEAR;
 // Its band has no end.
 const BEYOND_STACK: u8 = 21;
 
-// The answer of the lookup: 0 and the plate; 5 for a load past its limit, 15 for a place beyond the carried stacks.
-#[derive(Clone, Copy)]
-pub struct Lookup {
-    pub number: u8,
-    pub plate: u8,
-}
-
 // The plate of a load from zero on, by the end that the sticker has near it.
 fn plate_by_end(load: u32) -> u8
     requires { load < 10752 }
@@ -41,7 +32,7 @@ fn plate_by_end(load: u32) -> u8
     let mut plate = load / NEAR;
     let end = sticker::upper_end(plate);
     if end < load {
-        plate = plate + 1;
+        plate += 1;
     }
     plate as u8
 }
@@ -51,10 +42,7 @@ fn far_plate(code: u32) -> u8
     requires { (leb load_shift code && ltb code 60753) ≡ false }
     ensures { result ≡ plate_of (load_of code) }
 {
-    if code < CODE_OF_ZERO {
-        return 0;
-    }
-    BEYOND_STACK
+    if code < CODE_OF_ZERO { 0 } else { BEYOND_STACK }
 }
 
 // The plate of a load as stored.
@@ -62,32 +50,25 @@ pub fn plate_of_code(code: u32) -> u8
     ensures { result ≡ plate_of (load_of code) }
 {
     let near = (CODE_OF_ZERO <= code) & (code < PAST_ENDS);
-    if !near {
-        return far_plate(code);
+    if near {
+        plate_by_end(code - CODE_OF_ZERO)
+    } else {
+        far_plate(code)
     }
-    plate_by_end(code - CODE_OF_ZERO)
 }
 
-pub fn plate_of(place: u64, load: i32) -> Lookup
-    ensures { result ≡ lookup place load }
+// The lookup: refused for a load past its limit, and for a place beyond the carried stacks.
+pub fn plate_of(place: u64, load: i32) -> Result<u8, Ground>
+    ensures { lookup_of result ≡ lookup place load }
 {
-    let ok = lift::load_ok(load);
-    if !ok {
-        return Lookup {
-            number: LOAD_PAST_LIMIT,
-            plate: 0,
-        };
+    if !lift::load_ok(load) {
+        return Err(Ground::Load);
     }
     let is_beyond = stacks::CARRIED <= place;
     if is_beyond {
-        return Lookup {
-            number: NO_SUCH_STACK,
-            plate: 0,
-        };
+        return Err(Ground::NoStack);
     }
-    let code = lift::stored(load);
-    let plate = stacks::plate_on(place, code);
-    Lookup { number: 0, plate }
+    Ok(stacks::plate_on(place, lift::stored(load)))
 }
 
 pub fn no_counts() -> [u64; PLATES]

@@ -3,29 +3,12 @@
 // one byte more than that is read: it is of another form already, whatever follows (`too_long` in stack_list/proofs/AnyList).
 #![tactic(auto)]
 
-ghost use Rattle.std.specs.Prelude.{◌≤◌, length};
-
-use std::io::Read;
-
-// Reads until `text` is full, the input ends or a read fails; how many bytes it has from its start.
-fn read_full(input: &mut impl Read, text: &mut [u8]) -> usize
-    ensures { result ≤ length text.new }
-{
-    let mut done: usize = 0;
-    while done < text.len() {
-        let n = input.read(&mut text[done..]).unwrap_or(0);
-        if n == 0 {
-            return done;
-        }
-        done += n;
-    }
-    done
-}
-
 fn main(rt: HostRuntime) {
     let mut text = [0u8; stack_list::INPUT_BYTES];
-    let n = read_full(&mut rt.reader(), &mut text);
     let mut out = [0u8; stack_list::OUTPUT_BYTES];
-    let m = stack_list::generate(&text[..n], &mut out);
-    let _ = rt.write_all(&out[..m]);
+    let n = stack_list::generate(
+        fixed_input::read_full(&mut rt.reader(), &mut text),
+        &mut out,
+    );
+    let _ = rt.write_all(&out[..n]);
 }

@@ -3,6 +3,10 @@ use mathlib.Core.Path.{◌≡◌, refl, sym, subst, ◌∙◌}
 use mathlib.Core.Bool.{true, not, ◌&&◌, ◌||◌}
 use mathlib.Core.List.{List, [], ◌∷◌}
 use Prim.Native.Nat.{ℕ, zero, suc, ◌≤◌}
+use Rattle.std.specs.Prelude.{Err}
+use Rattle.grounds.specs.declared.Ground.{Ground}
+use Rattle.grounds.specs.Numbers.{number_of}
+use Rattle.grounds.proofs.Numbers.{number_some}
 use native.Mathlib.Omega.{arith}
 use lib.Dec.{ltb}
 use lib.IntN.{ℤ, pos, negsuc}
@@ -11,16 +15,17 @@ use lib.Signed.{lt_z}
 use borrow.Author.Tests.{ne_eqb, not-false}
 use Rattle.codec.proofs.Truth.{and_left, and_right}
 use Rattle.lift.specs.Limits.{time_ok, load_ok, stored}
-use Rattle.plate.specs.Plate.{no_counts}
 use Rattle.form.specs.declared.Form.{Form}
 use Rattle.form.specs.declared.Form.TheVariants.{New}
 use Rattle.skiplist.specs.declared.Pointer.{Pointer}
 use Rattle.skiplist.specs.Skip.{serials_from, in_slots}
 use Rattle.visit.specs.declared.Log.{Log}
+use Rattle.visit.specs.declared.Query.{Query}
 use Rattle.visit.specs.Inner.Sound.{InSlots, LogSound}
 use Rattle.found.specs.Found.{found_rows}
 use Rattle.found.specs.Pages.{pages_read}
 use Rattle.search.specs.Answers.{SearchAnswer, refused_answer, search_answer}
+use Rattle.tally.specs.Answers as Tallies
 use Rattle.tally.specs.Answers.{TallyAnswer, tally_answer}
 use Rattle.bounds.specs.Grounds.{ground, nand_bad, nor_bad, query_ground}
 use Rattle.bounds.proofs.Within as Within
@@ -28,7 +33,7 @@ use Rattle.store.specs.declared.State.{State}
 use Rattle.store.specs.Bounds.{heads_ok, within_bounds}
 use Rattle.store.specs.World.{world}
 use Rattle.store.specs.Inner.Pieces.{bounds_ground}
-use Rattle.questions.specs.Queries.{log_of, search_ground, search_outcome, tally_outcome}
+use Rattle.questions.specs.Queries.{log_of, query_of, search_ground, search_outcome, tally_outcome}
 use Rattle.store.proofs.Rows.{row, row_none}
 use Rattle.store.proofs.Grounds.{standing_in}
 use Rattle.store.proofs.Outcomes.{stands_not, stands}
@@ -94,33 +99,58 @@ loads_ok_lem t1 t2 k1 k2 e =
 
 -- ---- the returns of a search
 
-module _ (nand nor : List ℕ) (s : State) (slots t1 t2 : ℕ) (k1 k2 : ℤ) (area : List ℕ) (n : ℕ)
-    (judged : n ≡ search_ground (world nand nor s) slots t1 t2 k1 k2) where
-  pub search_refused : (n ≡ 0 → ⊥)
-      → refused_answer n area ≡ search_outcome (world nand nor s) slots t1 t2 k1 k2 area
+module _ (nand nor : List ℕ) (s : State) (slots t1 t2 : ℕ) (k1 k2 : ℤ) (area : List ℕ) where
+  search_refused : (x : Ground) → number_of x ≡ search_ground (world nand nor s) slots t1 t2 k1 k2
+      → refused_answer (number_of x) area ≡ search_outcome (world nand nor s) slots t1 t2 k1 k2 area
   unfolding search_outcome
-  search_refused h = rw (← judged, ne_eqb n 0 h)
+  search_refused x judged = rw (← judged, ne_eqb (number_of x) 0 (λ z. omega (arith, number_some x)))
 
-  -- g, the page and the loads as the code has them
-  pub search_done : n ≡ 0 → (g : Log) (page : List ℕ) (low high : ℕ) → g ≡ log_of s slots → page ≡ s.page → low ≡ stored k1
-      → high ≡ stored k2 → (a : SearchAnswer)
-      → a ≡ search_answer area (pages_read nand g (serials_from g.oldest) (record { t1 = t1; t2 = t2; k1 = low; k2 = high }))
-      (found_rows nand nor page g (serials_from g.oldest) (record { t1 = t1; t2 = t2; k1 = low; k2 = high }))
-      → a ≡ search_outcome (world nand nor s) slots t1 t2 k1 k2 area
-  unfolding search_outcome
-  search_done z g page low high e p l h a f = rw (← judged, z) (f ∙ rw (e, p, l, h))
+  -- by grounds 1 to 3
+  pub search_stopped : (x : Ground) → number_of x ≡ bounds_ground New s 0 (length nand) (length nor) slots
+      → refused_answer (number_of x) area ≡ search_outcome (world nand nor s) slots t1 t2 k1 k2 area
+  search_stopped x judged =
+      search_refused x (ground_bounds nand nor s slots (number_of x) judged t1 t2 k1 k2 (λ z. omega (arith, number_some x)))
+
+  module _ (judged : 0 ≡ bounds_ground New s 0 (length nand) (length nor) slots) where
+    -- by grounds 4 to 6
+    pub search_barred : (x : Ground) → number_of x ≡ query_ground t1 t2 k1 k2
+        → refused_answer (number_of x) area ≡ search_outcome (world nand nor s) slots t1 t2 k1 k2 area
+    search_barred x e = search_refused x (ground_query nand nor s slots 0 judged t1 t2 k1 k2 (number_of x) refl e)
+
+    -- g and the page as the code has them
+    pub search_done : 0 ≡ query_ground t1 t2 k1 k2 → (g : Log) (page : List ℕ) (q : Query) → g ≡ log_of s slots → page ≡ s.page
+        → q ≡ query_of t1 t2 k1 k2 → (a : SearchAnswer)
+        → a ≡ search_answer area (pages_read nand g (serials_from g.oldest) q) (found_rows nand nor page g (serials_from g.oldest) q)
+        → a ≡ search_outcome (world nand nor s) slots t1 t2 k1 k2 area
+    unfolding search_outcome
+    search_done z g page q e p is a f =
+        let j = ground_query nand nor s slots 0 judged t1 t2 k1 k2 0 refl z in
+        rw (← j) (f ∙ rw (e, p, is))
 
 -- ---- the returns of a tally: all loads
 
-module _ (nand nor : List ℕ) (s : State) (slots t1 t2 : ℕ) (n : ℕ)
-    (judged : n ≡ search_ground (world nand nor s) slots t1 t2 (negsuc 49999) (pos 100000)) where
-  pub tally_refused : (n ≡ 0 → ⊥)
-      → ◌≡◌ {A = TallyAnswer} (record { number = n; counts = no_counts }) (tally_outcome (world nand nor s) slots t1 t2)
+module _ (nand nor : List ℕ) (s : State) (slots t1 t2 : ℕ) where
+  tally_refused : (x : Ground) → number_of x ≡ search_ground (world nand nor s) slots t1 t2 (negsuc 49999) (pos 100000)
+      → Tallies.answer_of (Err x) ≡ tally_outcome (world nand nor s) slots t1 t2
   unfolding tally_outcome
-  tally_refused h = rw (← judged, ne_eqb n 0 h)
+  tally_refused x judged = rw (← judged, ne_eqb (number_of x) 0 (λ z. omega (arith, number_some x)))
 
-  pub tally_done : n ≡ 0 → (g : Log) (page : List ℕ) → g ≡ log_of s slots → page ≡ s.page → (a : TallyAnswer)
-      → a ≡ tally_answer (found_rows nand nor page g (serials_from g.oldest) (record { t1 = t1; t2 = t2; k1 = 1; k2 = 150001 }))
-      → a ≡ tally_outcome (world nand nor s) slots t1 t2
-  unfolding tally_outcome stored
-  tally_done z g page e p a f = rw (← judged, z) (f ∙ rw (e, p))
+  pub tally_stopped : (x : Ground) → number_of x ≡ bounds_ground New s 0 (length nand) (length nor) slots
+      → Tallies.answer_of (Err x) ≡ tally_outcome (world nand nor s) slots t1 t2
+  tally_stopped x judged =
+      tally_refused x
+      (ground_bounds nand nor s slots (number_of x) judged t1 t2 (negsuc 49999) (pos 100000) (λ z. omega (arith, number_some x)))
+
+  module _ (judged : 0 ≡ bounds_ground New s 0 (length nand) (length nor) slots) where
+    pub tally_barred : (x : Ground) → number_of x ≡ query_ground t1 t2 (negsuc 49999) (pos 100000)
+        → Tallies.answer_of (Err x) ≡ tally_outcome (world nand nor s) slots t1 t2
+    tally_barred x e = tally_refused x (ground_query nand nor s slots 0 judged t1 t2 (negsuc 49999) (pos 100000) (number_of x) refl e)
+
+    pub tally_done : 0 ≡ query_ground t1 t2 (negsuc 49999) (pos 100000) → (g : Log) (page : List ℕ) (q : Query) → g ≡ log_of s slots
+        → page ≡ s.page → q ≡ query_of t1 t2 (negsuc 49999) (pos 100000) → (a : TallyAnswer)
+        → a ≡ tally_answer (found_rows nand nor page g (serials_from g.oldest) q)
+        → a ≡ tally_outcome (world nand nor s) slots t1 t2
+    unfolding tally_outcome
+    tally_done z g page q e p is a f =
+        let j = ground_query nand nor s slots 0 judged t1 t2 (negsuc 49999) (pos 100000) 0 refl z in
+        rw (← j) (f ∙ rw (e, p, is))

@@ -5,15 +5,16 @@
 pub mod pieces;
 
 ghost use Rattle.std.specs.Prelude.{◌≡◌};
-ghost use Rattle.search.specs.Answers.{SearchAnswer};
-ghost use Rattle.tally.specs.Answers.{TallyAnswer};
+ghost use Rattle.search.specs.Answers.{answer_of};
+ghost use Rattle.tally.specs.Answers as Tallies;
 ghost use Rattle.store.specs.World.{world};
 ghost use Rattle.questions.specs.Queries.{log_of, search_outcome, tally_outcome};
 
 use form::Form;
+use grounds::Ground;
+use plate::PLATES;
 use search::Found;
 use store::State;
-use tally::Tally;
 use visit::Log;
 
 // What a search needs of the state.
@@ -42,22 +43,27 @@ pub fn search(
     k1: i32,
     k2: i32,
     area: &mut [u8],
-) -> Found
-    ensures { ◌≡◌ {A = SearchAnswer} (record { number = result.number; count = result.count; pages = result.pages; area = area.new })
-        (search_outcome (world nand.now nor.now s) slots t1 t2 k1 k2 area.old) }
+) -> Result<Found, Ground>
+    ensures { answer_of result area.new ≡ search_outcome (world nand.now nor.now s) slots t1 t2 k1 k2 area.old }
 {
-    let n = s.ground(Form::New, 0, nand.len(), nor.len(), slots);
+    let judged = s.ground(Form::New, 0, nand.len(), nor.len(), slots);
     let page = s.page;
     let g = log_of(s, slots);
-    pieces::search_from(n, &page, g, nand, nor, t1, t2, k1, k2, area)
+    pieces::search_from(judged, &page, g, nand, nor, t1, t2, k1, k2, area)
 }
 
-pub fn tally(s: State, nand: &[u8], nor: &[u8], slots: u64, t1: u64, t2: u64) -> Tally
-    ensures { ◌≡◌ {A = TallyAnswer} (record { number = result.number; counts = result.counts })
-        (tally_outcome (world nand.now nor.now s) slots t1 t2) }
+pub fn tally(
+    s: State,
+    nand: &[u8],
+    nor: &[u8],
+    slots: u64,
+    t1: u64,
+    t2: u64,
+) -> Result<[u64; PLATES], Ground>
+    ensures { Tallies.answer_of result ≡ tally_outcome (world nand.now nor.now s) slots t1 t2 }
 {
-    let n = s.ground(Form::New, 0, nand.len(), nor.len(), slots);
+    let judged = s.ground(Form::New, 0, nand.len(), nor.len(), slots);
     let page = s.page;
     let g = log_of(s, slots);
-    pieces::tally_from(n, &page, g, nand, nor, t1, t2)
+    pieces::tally_from(judged, &page, g, nand, nor, t1, t2)
 }

@@ -1,12 +1,13 @@
 -- The turns of the two loops over the retained lift times, and that what they find is whether the times rise. Assumes nothing.
 use mathlib.Core.Path.{◌≡◌, refl, sym, ap, ◌∙◌}
 use mathlib.Core.Bool.{Bool, true, false, ◌&&◌}
+use Rattle.std.proofs.Common.{Some}
 use mathlib.Core.List.{List, [], ◌∷◌, ◌++◌}
 use Prim.Native.Nat.{ℕ, suc, ◌+◌, ◌-◌, ◌*◌, ◌/◌, ◌≤◌, ◌<◌}
 use native.Mathlib.Omega.{arith}
 use lib.Dec.{ltb}
 use Rattle.codec.specs.Number.{number_at}
-use Rattle.flash.specs.Chip.{slot_of, page_of, pages_of}
+use Rattle.flash.specs.Chip.{slot_of, pages_of}
 use Rattle.bloom.specs.Pages.{each}
 use Rattle.carry.specs.declared.Serials.{Serials}
 use Rattle.retained.specs.declared.times.Rise.{Rise}
@@ -21,7 +22,7 @@ unfolding rise_over
 rise_append r [] b = refl
 rise_append r (t ∷ a) b = rise_append (rise_with r t) a b
 
-from_here : (g : Bool) (t : ℕ) (ts : List ℕ) → (rise_over (record { rising = g; any = true; last = t }) ts).rising ≡ (g && rises_from t ts)
+from_here : (g : Bool) (t : ℕ) (ts : List ℕ) → (rise_over (record { rising = g; last = Some t }) ts).rising ≡ (g && rises_from t ts)
 unfolding rise_over rise_with rises_from
 from_here true t [] = refl
 from_here false t [] = refl
@@ -73,14 +74,10 @@ module _ (nand : List ℕ) (slots current n : ℕ) where
 
 -- ---- one closed segment as it is read
 
-module _ (nand : List ℕ) (slots n slot : ℕ) (h : List ℕ) (count : ℕ) (is : slot ≡ slot_of n slots) (there : h ≡ page_of nand slot 31)
-    (read : count ≡ number_at h 4 2) where
-  pub counted : count ≡ number_at (header_of nand slots n) 4 2
-  counted = read ∙ ap (λ (p : List ℕ). number_at p 4 2) (there ∙ ap (λ (s : ℕ). page_of nand s 31) is)
-
-  pub closed_read : (lifts : List ℕ) (q r : Rise) → lifts ≡ pages_of nand slot 0 20
-      → r ≡ rise_over q (segment_times lifts lifts 320 count) → r ≡ rise_over q (closed_times nand slots n)
-  closed_read lifts q r l e = e ∙ rw (l, is, counted)
+pub closed_read : (nand : List ℕ) (slots n slot count : ℕ) (h lifts : List ℕ) (q r : Rise) → h ≡ header_of nand slots n
+    → count ≡ number_at h 4 2 → slot ≡ slot_of n slots → lifts ≡ pages_of nand slot 0 20
+    → r ≡ rise_over q (segment_times lifts lifts 320 count) → r ≡ rise_over q (closed_times nand slots n)
+closed_read nand slots n slot count h lifts q r there read is l e = e ∙ rw (l, is, read, there)
 
 -- ---- all of them
 

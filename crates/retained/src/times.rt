@@ -7,6 +7,7 @@ ghost use Rattle.carry.specs.Carried.{header_of};
 ghost use Rattle.retained.specs.Retained.{segment_times, closed_times, times_from, rises};
 ghost use Rattle.retained.specs.Inner.Loops.{rise_with, rise_over, not_yet, times_of, CountsFit};
 
+use crate::headers;
 use carry::Serials;
 use flash::{PAGE_BYTES, Page};
 
@@ -14,18 +15,19 @@ use flash::{PAGE_BYTES, Page};
 #[derive(Clone, Copy)]
 pub struct Rise {
     pub rising: bool,
-    pub any: bool,
-    pub last: u64,
+    pub last: Option<u64>,
 }
 
 fn rise_with(r: Rise, time: u64) -> Rise
     ensures { result ≡ rise_with r time }
 {
-    let later = !r.any | (r.last < time);
+    let is_later = match r.last {
+        None => true,
+        Some(last) => last < time,
+    };
     Rise {
-        rising: r.rising & later,
-        any: true,
-        last: time,
+        rising: r.rising & is_later,
+        last: Some(time),
     }
 }
 
@@ -35,11 +37,8 @@ fn rise_in(lifts: &[u8], tail: &[u8], first: usize, count: usize, r: Rise) -> Ri
     ensures { result ≡ rise_over r (segment_times lifts.now tail.now first count) }
 {
     let mut q = r;
-    let mut p: usize = 0;
-    while p < count {
-        let time = lift::time_in(lifts, tail, first, p);
-        q = rise_with(q, time);
-        p += 1;
+    for p in 0..count {
+        q = rise_with(q, lift::time_in(lifts, tail, first, p));
     }
     q
 }
@@ -49,9 +48,8 @@ fn rise_closed(nand: &[u8], slots: u64, n: u32, r: Rise) -> Rise
     requires { (length nand.now ≡ slots * slot_width) × (1 ≤ slots) × (1 ≤ n) × (number_at (header_of nand.now slots n) 4 2 ≤ lifts_most) }
     ensures { result ≡ rise_over r (closed_times nand.now slots n) }
 {
+    let count = header::count_in(headers::header_at(nand, slots, n));
     let slot = flash::slot_of(n, slots);
-    let h = flash::pages_of(nand, slot, Page(flash::HEADER_LAST), 1);
-    let count = codec::get_u16(h, 4);
     let lifts = flash::pages_of(nand, slot, Page(0), flash::TREE_FIRST);
     rise_in(lifts, lifts, lift::LIFTS_MOST as usize, count as usize, r)
 }
@@ -62,17 +60,12 @@ fn rise_all(nand: &[u8], s: Serials) -> Rise
     requires counts_fit { CountsFit nand.now s }
     ensures { result ≡ rise_over not_yet (times_from nand.now s.slots (s.current - s.oldest) s.oldest) }
 {
-    let slots = s.slots;
-    let current = s.current;
     let mut q = Rise {
         rising: true,
-        any: false,
-        last: 0,
+        last: None,
     };
-    let mut n = s.oldest;
-    while n < current {
-        q = rise_closed(nand, slots, n, q);
-        n += 1;
+    for n in s.oldest..s.current {
+        q = rise_closed(nand, s.slots, n, q);
     }
     q
 }

@@ -3,16 +3,13 @@
 use mathlib.Core.Path.{◌≡◌, refl, sym, ap, ◌∙◌}
 use mathlib.Core.Bool.{true, false}
 use mathlib.Core.Option.{Option, none, some}
-use mathlib.Core.List.{List, [], map}
+use mathlib.Core.List.{List, [], ◌∷◌, map}
 use Prim.Native.Nat.{ℕ, ◌+◌, ◌-◌, ◌*◌, ◌≤◌, ◌<◌}
 use native.Mathlib.Omega.{arith}
 use lib.ListN.{length, length-append, length-map}
 use Rattle.codec.specs.Area.{splice}
 use Rattle.codec.proofs.Areas.{length_splice, splice_next}
-use Rattle.bitset.specs.declared.Bits.{Bits}
-use Rattle.bitset.specs.declared.Next.{Next}
-use Rattle.bitset.specs.Inner.Words.{members, Below}
-use Rattle.bitset.specs.Inner.Emptying.{next_of}
+use Rattle.bitset.specs.Inner.Words.{Below}
 use Rattle.lift.specs.Rows.{record_in}
 use Rattle.skiplist.specs.Skip.{Live}
 use Rattle.sweep.specs.declared.Records.{Records}
@@ -20,70 +17,65 @@ use Rattle.sweep.specs.Inner.Swept.{Recorded}
 use Rattle.visit.specs.declared.Closed.{Closed}
 use Rattle.visit.specs.declared.Query.{Query}
 use Rattle.visit.specs.Visit.{closed_rows}
-use Rattle.visit.proofs.Emptying.{emptied_more, emptied_all, emptied_below}
 use Rattle.walk.specs.declared.Cursor.{Cursor}
-use Rattle.walk.specs.declared.Step.TheVariants.{End, Damage, Pass, Visit}
-use Rattle.walk.specs.Advance.{advance_of}
 use Rattle.walk.specs.Inner.Sound.{Sound}
 use Rattle.found.specs.Found.{join_rows}
-use Rattle.found.specs.Inner.Turns.{rows_after, rows_in}
+use Rattle.found.specs.Inner.Turns.{rows_after, rows_in, Onward}
 use Rattle.found.proofs.Counts.{never}
 use Rattle.found.proofs.Matched.{WideIn, record_size, closed_wide}
 use Rattle.found.proofs.Wide.{Wide}
 use Rattle.found.proofs.Placed.{Placed}
-use Rattle.found.proofs.Falling.{pass_facts, visit_facts}
-use Rattle.found.proofs.Segments.{rows_end, rows_damage, rows_pass, rows_visit, rows_wide}
-use Rattle.search.specs.declared.Writing.{Writing}
+use Rattle.found.proofs.Segments.{rows_wide}
 use Rattle.search.specs.Answers.{row_bytes}
-use Rattle.search.specs.Inner.Turns.{written_in, WrittenUpTo, CountIs, write_left, WritesOn}
+use Rattle.search.specs.Inner.Turns.{written_in, WrittenUpTo, CountIs}
 use Rattle.search.proofs.Backwards.{backwards, splice_none}
 use Rattle.search.proofs.Rows.{length_rows}
 
 -- ---- the records of a set
 
--- rows before `to` are written; with those of the rest the area comes to `all`
-pub record Puts (lifts tail : List ℕ) (g : Records) (all : List ℕ) (size : ℕ) (area : List ℕ) (rest : Bits)
-    (to : ℕ) : Type 0 where
-  pub below : Below g.count (members rest.words)
-  pub room : (to + length (members rest.words)) * 32 ≤ length area
+-- rows before `to` are written; with those of the places left the area comes to `all`
+pub record Puts (lifts tail : List ℕ) (g : Records) (all : List ℕ) (size : ℕ) (area left : List ℕ) (to : ℕ) : Type 0 where
+  pub below : Below g.count left
+  pub room : (to + length left) * 32 ≤ length area
   pub long : length area ≡ size
-  pub leads : splice area (to * 32) (row_bytes (map (record_in lifts tail g.first) (members rest.words))) ≡ all
+  pub leads : splice area (to * 32) (row_bytes (map (record_in lifts tail g.first) left)) ≡ all
 
-module _ (lifts tail : List ℕ) (g : Records) (r : Recorded lifts tail g) (all : List ℕ) (size : ℕ) (area : List ℕ) (rest : Bits)
-    (to : ℕ)
-    (i : Puts lifts tail g all size area rest to) (n : Next) (is : n ≡ next_of rest) where
-  pub puts_over : n.found ≡ false → area ≡ all
+pub puts_begin : (lifts tail : List ℕ) (g : Records) (area left : List ℕ) (to : ℕ) → Below g.count left
+    → (to + length left) * 32 ≤ length area
+    → Puts lifts tail g (splice area (to * 32) (row_bytes (map (record_in lifts tail g.first) left))) (length area) area left to
+puts_begin lifts tail g area left to b r = record { below = b; room = r; long = refl; leads = refl }
+
+module _ (lifts tail : List ℕ) (g : Records) (r : Recorded lifts tail g) (all : List ℕ) (size : ℕ) (area left : List ℕ) (to : ℕ)
+    (i : Puts lifts tail g all size area left to) where
+  pub puts_over : left ≡ [] → area ≡ all
   unfolding row_bytes
-  puts_over e = sym (splice_none area (to * 32)) ∙ rw (emptied_all rest n is e) at i.leads
+  puts_over e = sym (splice_none area (to * 32)) ∙ rw e at i.leads
 
-  module _ (e : n.found ≡ true) where
-    pub puts_below : n.at < g.count
-    puts_below = (emptied_below rest n is g.count e i.below).0
-
-    count_is : length (members rest.words) ≡ length (members n.rest.words) + 1
-    count_is = ap length (emptied_more rest n is e) ∙ omega arith
+  module _ (p : ℕ) (more : List ℕ) (e : left ≡ p ∷ more) where
+    pub puts_below : p < g.count
+    puts_below = (rw e at i.below).0
 
     pub puts_room : to * 32 + 32 ≤ length area
-    puts_room = omega (arith, i.room, count_is)
+    puts_room = omega (arith, i.room, ap length e)
 
-    pub puts_more : (new : List ℕ) → new ≡ splice area (to * 32) (record_in lifts tail g.first n.at)
-        → Puts lifts tail g all size new n.rest (to + 1)
+    pub puts_more : (new : List ℕ) → new ≡ splice area (to * 32) (record_in lifts tail g.first p)
+        → Puts lifts tail g all size new more (to + 1)
     unfolding row_bytes
     puts_more new f =
-        let w = record_size lifts tail g r n.at puts_below in
-        let l : length new ≡ length area = ap length f ∙ length_splice area (to * 32) (record_in lifts tail g.first n.at)
+        let w = record_size lifts tail g r p puts_below in
+        let l : length new ≡ length area = ap length f ∙ length_splice area (to * 32) (record_in lifts tail g.first p)
         (omega (arith, puts_room)) in
         record {
-          below = (emptied_below rest n is g.count e i.below).1;
-          room = omega (arith, i.room, count_is);
+          below = (rw e at i.below).1;
+          room = omega (arith, i.room, ap length e);
           long = l ∙ i.long;
           leads =
               ap (λ (s : List ℕ). splice s ((to + 1) * 32) (row_bytes
-              (map (record_in lifts tail g.first) (members n.rest.words)))) f
-              ∙ splice_next area (to * 32) (record_in lifts tail g.first n.at) ((to + 1) * 32)
-              (row_bytes (map (record_in lifts tail g.first) (members n.rest.words))) (omega arith)
+              (map (record_in lifts tail g.first) more))) f
+              ∙ splice_next area (to * 32) (record_in lifts tail g.first p) ((to + 1) * 32)
+              (row_bytes (map (record_in lifts tail g.first) more)) (omega arith)
               (omega (arith, puts_room))
-              ∙ rw (emptied_more rest n is e) at i.leads;
+              ∙ rw e at i.leads;
         }
 
 -- ---- the rows of a segment
@@ -151,109 +143,49 @@ pub wide_in : (o : Option (List (List ℕ))) → WideIn o → Wide 32 (rows_in o
 wide_in none w = tt
 wide_in (some rows) w = w
 
--- ---- one segment on
-
-module _ (nand : List ℕ) (slots : ℕ) (live : Live) (q : Query) (size : length nand ≡ slots * 16384) (area : List ℕ) (w : Writing)
-    (sound : Sound slots w.c)
-    (busy : w.done ≡ false) (counts : CountIs w.row (rows_after nand slots live q w.c)) where
-  left : (o : Option (List (List ℕ))) → rows_after nand slots live q w.c ≡ o
-      → write_left nand slots live q area w ≡ written_in area o
-  left o e = rw (busy, e)
-
-  pub write_end : advance_of nand slots live q w.c ≡ End
-      → WritesOn nand slots live q area area w (record { done = true; c = w.c; row = w.row })
-  unfolding row_bytes
-  write_end e =
-      record {
-        leads = sym (left (some []) (rows_end nand slots live q size w.c sound e) ∙ splice_none area 0);
-        size = refl;
-        counts = λ h. never h;
-        fewer = omega arith;
-        sound = λ h. never h;
-        falls = λ h. never h;
-      }
-
-  pub write_damage : advance_of nand slots live q w.c ≡ Damage
-      → WritesOn nand slots live q area area w (record { done = true; c = w.c; row = w.row })
-  write_damage e = let n : CountIs w.row none = rw (rows_damage nand slots live q size w.c sound e) at counts in absurd n
-
-  pub write_pass : (d : Cursor) → advance_of nand slots live q w.c ≡ Pass d
-      → WritesOn nand slots live q area area w (record { done = false; c = d; row = w.row })
-  write_pass d e =
-      let f = pass_facts nand slots live q size w.c sound d e in
-      let p = rows_pass nand slots live q size w.c sound d e in
-      record {
-        leads = sym (left (rows_after nand slots live q d) p);
-        size = refl;
-        counts = λ h. rw p at counts;
-        fewer = omega arith;
-        sound = λ h. f.sound;
-        falls = λ h. f.falls;
-      }
-
-  module _ (d : Cursor) (s : Closed) (e : advance_of nand slots live q w.c ≡ Visit s d) where
-    parts : CountIs w.row (join_rows (rows_after nand slots live q d) (closed_rows nand s q))
-    parts = rw (rows_visit nand slots live q size w.c sound d s e) at counts
-
-    pub visit_fits : length (rows_in (closed_rows nand s q)) ≤ w.row
-    visit_fits = newer_fit w.row (rows_after nand slots live q d) (closed_rows nand s q) parts
-
-    module _ (room : w.row * 32 ≤ length area) (new : List ℕ) (before : ℕ)
-        (u : WrittenUpTo area new (rows_in (closed_rows nand s q)) w.row before) where
-      pub visit_size : length new ≡ length area
-      visit_size =
-          let k = (visit_facts nand slots live q size w.c sound d s e).0 in
-          written_size area new (rows_in (closed_rows nand s q)) w.row before
-          (wide_in (closed_rows nand s q) (closed_wide nand s q k)) room u
-
-      pub write_visit : WritesOn nand slots live q area new w (record { done = false; c = d; row = before })
-      write_visit =
-          let f = (visit_facts nand slots live q size w.c sound d s e).1 in
-          let b = u.begins in
-          record {
-            leads =
-                older_before area new w.row before room (rows_after nand slots live q d) (closed_rows nand s q)
-                (rows_wide nand slots live q size d f.sound) parts u
-                ∙ sym (left (join_rows (rows_after nand slots live q d) (closed_rows nand s q))
-                (rows_visit nand slots live q size w.c sound d s e));
-            size = visit_size;
-            counts = λ h. older_left area new w.row before room (rows_after nand slots live q d) (closed_rows nand s q) parts u;
-            fewer = omega arith;
-            sound = λ h. f.sound;
-            falls = λ h. f.falls;
-          }
-
 -- ---- rows on their way
 
-pub record WriteGoes (nand : List ℕ) (slots : ℕ) (live : Live) (q : Query) (all : List ℕ) (size : ℕ) (area : List ℕ)
-    (w : Writing) : Type 0 where
-  pub busy : w.done ≡ false
-  pub sound : Sound slots w.c
-  pub counts : CountIs w.row (rows_after nand slots live q w.c)
-  pub room : w.row * 32 ≤ length area
-  pub long : length area ≡ size
-  pub leads : write_left nand slots live q area w ≡ all
+module _ (nand : List ℕ) (slots : ℕ) (live : Live) (q : Query) (all : List ℕ) (size : ℕ) where
+  -- rows from `row` on are written; with those before them the area comes to `all`
+  pub record WriteGoes (area : List ℕ) (c : Cursor) (row : ℕ) : Type 0 where
+    pub sound : Sound slots c
+    pub counts : CountIs row (rows_after nand slots live q c)
+    pub room : row * 32 ≤ length area
+    pub long : length area ≡ size
+    pub leads : written_in area (rows_after nand slots live q c) ≡ all
 
-module _ (nand : List ℕ) (slots : ℕ) (live : Live) (q : Query) (all : List ℕ) (size : ℕ) (area : List ℕ) (w : Writing)
-    (i : WriteGoes nand slots live q all size area w) (new : List ℕ) (next : Writing)
-    (o : WritesOn nand slots live q area new w next) where
-  pub write_again : next.done ≡ false → WriteGoes nand slots live q all size new next
-  write_again h =
-      let f = o.fewer in
-      let l = o.size in
-      let b = i.room in
-      record {
-        busy = h;
-        sound = o.sound h;
-        counts = o.counts h;
-        room = omega arith;
-        long = l ∙ i.long;
-        leads = o.leads ∙
-            i.leads;
-      }
+  module _ (area : List ℕ) (c : Cursor) (row : ℕ) (i : WriteGoes area c row) where
+    -- no segment is left, and there is no damage
+    pub write_over : rows_after nand slots live q c ≡ some [] → area ≡ all
+    unfolding row_bytes
+    write_over e = sym (splice_none area 0) ∙ rw e at i.leads
 
-  pub write_over : next.done ≡ true → new ≡ all
-  write_over h = ended (sym (o.leads ∙ i.leads))
-    where
-      ended : all ≡ write_left nand slots live q new next → new ≡ all
-      ended e = sym (e ∙ rw h)
+    module _ (s : Closed) (d : Cursor) (o : Onward nand slots live q c s d) where
+      parts : CountIs row (join_rows (rows_after nand slots live q d) (closed_rows nand s q))
+      parts = rw o.rows at i.counts
+
+      pub write_fits : length (rows_in (closed_rows nand s q)) ≤ row
+      write_fits = newer_fit row (rows_after nand slots live q d) (closed_rows nand s q) parts
+
+      module _ (size_is : length nand ≡ slots * 16384) (new : List ℕ) (before : ℕ)
+          (u : WrittenUpTo area new (rows_in (closed_rows nand s q)) row before) where
+        pub write_size : length new ≡ length area
+        write_size =
+            written_size area new (rows_in (closed_rows nand s q)) row before
+            (wide_in (closed_rows nand s q) (closed_wide nand s q o.closed)) i.room u
+
+        pub write_again : WriteGoes new d before
+        write_again =
+            let b = u.begins in
+            let l = write_size in
+            let r = i.room in
+            record {
+              sound = o.sound;
+              counts = older_left area new row before i.room (rows_after nand slots live q d) (closed_rows nand s q) parts u;
+              room = omega arith;
+              long = l ∙ i.long;
+              leads =
+                  older_before area new row before i.room (rows_after nand slots live q d) (closed_rows nand s q)
+                  (rows_wide nand slots live q size_is d o.sound) parts u
+                  ∙ ap (written_in area) (sym o.rows) ∙ i.leads;
+            }

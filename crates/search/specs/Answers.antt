@@ -1,10 +1,13 @@
 -- The answer of a search (document 01, "Search", grounds 10 and 12). Assumes nothing.
-use Rattle.std.specs.Prelude.{cond, List, [], ◌∷◌, ◌++◌, ℕ, ltb, length}
+use Rattle.std.specs.Prelude.{cond, List, [], ◌∷◌, ◌++◌, ℕ, ltb, length, Result, Ok, Err}
 use Rattle.std.proofs.Math.Option.{Option, none, some}
 use Rattle.codec.specs.Area.{splice}
 use Rattle.lift.specs.Rows.{whole_rows}
+use Rattle.grounds.specs.declared.Ground.{Ground}
+use Rattle.grounds.specs.Numbers.{number_of}
 use Rattle.found.specs.declared.Pages.{Pages}
 use Rattle.found.specs.Pages.{no_pages}
+use Rattle.search.specs.declared.Found.{Found}
 
 -- rows side by side
 unfoldable pub row_bytes : List (List ℕ) → List ℕ
@@ -21,6 +24,11 @@ pub record SearchAnswer : Type 0 where
 -- a refusal
 abbrev pub refused_answer : ℕ → List ℕ → SearchAnswer
 refused_answer n area = record { number = n; count = 0; pages = no_pages; area = area }
+
+-- what a call hands back, beside the area as it leaves it
+abbrev pub answer_of : Result Found Ground → List ℕ → SearchAnswer
+answer_of (Ok f) area = record { number = 0; count = f.count; pages = f.pages; area = area }
+answer_of (Err g) area = refused_answer (number_of g) area
 
 -- "10. Damage is met." "12. The lifts found outnumber the whole 32-byte rows of the result area." "the rows go out as records ..;
 -- the rest of the result area keeps its bytes"

@@ -8,70 +8,45 @@ ghost use Rattle.flash.specs.Chip.{page_width};
 ghost use Rattle.skiplist.specs.Skip.{serials_from};
 ghost use Rattle.visit.specs.Inner.Sound.{LogSound};
 ghost use Rattle.found.specs.Found.{found_rows};
-ghost use Rattle.found.specs.Pages.{pages_read, no_pages};
-ghost use Rattle.search.specs.Answers.{SearchAnswer, search_answer};
+ghost use Rattle.found.specs.Pages.{pages_read};
+ghost use Rattle.search.specs.Answers.{answer_of, search_answer};
 
-use found::{DAMAGE, Pages};
+use found::Pages;
+use grounds::Ground;
 use visit::{Log, Query};
-use walk::Cursor;
 
-// Ground 12: the lifts found outnumber the whole rows of the result area.
-pub const TOO_SMALL: u8 = 12;
-
-// The number, how many were found, and the pages read.
+// How many were found, and the pages read.
 #[derive(Clone, Copy)]
 pub struct Found {
-    pub number: u8,
     pub count: u64,
     pub pages: Pages,
 }
 
-// Rows on their way: those from `row` on are written.
-#[derive(Clone, Copy)]
-struct Writing {
-    done: bool,
-    c: Cursor,
-    row: u64,
-}
-
-// Refused: nothing was found and no page counts.
-pub fn refused(number: u8) -> Found
-    ensures { result ≡ record { number = number; count = 0; pages = no_pages } }
-{
-    let none = found::no_pages();
-    Found {
-        number,
-        count: 0,
-        pages: none,
-    }
-}
-
 // Grounds 10 and 12, then the rows. No row is written before the answer is known.
-pub fn search_in(nand: &[u8], nor: &[u8], page: &[u8], g: Log, q: Query, area: &mut [u8]) -> Found
+pub fn search_in(
+    nand: &[u8],
+    nor: &[u8],
+    page: &[u8],
+    g: Log,
+    q: Query,
+    area: &mut [u8],
+) -> Result<Found, Ground>
     requires log_sound { LogSound nand.now nor.now g }
     requires page_len { length page.now ≡ page_width }
     requires le_k1 { 1 ≤ q.k1 }
-    ensures { ◌≡◌ {A = SearchAnswer} (record { number = result.number; count = result.count; pages = result.pages; area = area.new })
-        (search_answer area.old (pages_read nand.now g (serials_from g.oldest) q)
-        (found_rows nand.now nor.now page.now g (serials_from g.oldest) q)) }
+    ensures { answer_of result area.new ≡ search_answer area.old (pages_read nand.now g (serials_from g.oldest) q)
+        (found_rows nand.now nor.now page.now g (serials_from g.oldest) q) }
 {
     let start = walk::start_of(nand, g, q);
-    let c = start.at;
-    let n = found::count_all(nand, nor, page, g, q, c, start.moves);
-    let good = n.good;
-    if !good {
-        return refused(DAMAGE);
-    }
+    let n = found::count_all(nand, nor, page, g, q, start.at, start.moves).ok_or(Ground::Damage)?;
     let total = n.total;
     let rows = (area.len() / lift::RECORD_BYTES) as u64;
     if rows < total {
-        return refused(TOO_SMALL);
+        return Err(Ground::ManyRows);
     }
-    write::write_all(area, nand, nor, page, g, q, c, total);
-    let pages = n.pages;
-    Found {
-        number: 0,
+    write::write_all(area, nand, nor, page, g, q, start.at, total);
+    Ok(Found {
         count: total,
-        pages,
-    }
+        pages: n.pages,
+    })
 }

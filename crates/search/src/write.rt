@@ -1,5 +1,5 @@
 // The rows of a search (document 01, "Search"), written from the end of the count backwards: the open segment's first.
-ghost use Rattle.std.specs.Prelude.{◌≡◌, false, map, ◌+◌, ◌*◌, ◌≤◌, length};
+ghost use Rattle.std.specs.Prelude.{◌≡◌, map, ◌+◌, ◌*◌, ◌≤◌, length};
 ghost use Rattle.flash.specs.Chip.{page_width, slot_width};
 ghost use Rattle.lift.specs.Record.{record_width};
 ghost use Rattle.codec.specs.Area.{splice};
@@ -12,13 +12,13 @@ ghost use Rattle.visit.specs.Inner.Sound.{ClosedSound, LogSound};
 ghost use Rattle.walk.specs.Inner.Sound.{Sound, Begun};
 ghost use Rattle.found.specs.Inner.Turns.{all_rows, rows_after, rows_in};
 ghost use Rattle.search.specs.Answers.{row_bytes};
-ghost use Rattle.search.specs.Inner.Turns.{written_in, WrittenUpTo, CountIs, WritesOn};
+ghost use Rattle.search.specs.Inner.Turns.{written_in, WrittenUpTo, CountIs};
 
-use crate::Writing;
 use bitset::Bits;
+use found::ahead;
 use sweep::Records;
 use visit::{Closed, Log, Query};
-use walk::{Cursor, Step};
+use walk::Cursor;
 
 // The records of a set's places go to rows from `row` on, the lowest place first.
 fn put_rows(area: &mut [u8], row: usize, lifts: &[u8], tail: &[u8], g: Records, set: Bits)
@@ -28,17 +28,8 @@ fn put_rows(area: &mut [u8], row: usize, lifts: &[u8], tail: &[u8], g: Records, 
     ensures { area.new ≡ splice area.old (row * record_width)
         (row_bytes (map (record_in lifts.now tail.now g.first) (members set.words))) }
 {
-    let mut rest = set;
-    let mut to = row;
-    loop {
-        let n = rest.next();
-        let found = n.found;
-        if !found {
-            return;
-        }
-        lift::put_row(area, to, lifts, tail, g.first, n.at);
-        to += 1;
-        rest = n.rest;
+    for (i, p) in set.places().enumerate() {
+        lift::put_row(area, row + i, lifts, tail, g.first, p);
     }
 }
 
@@ -48,8 +39,9 @@ fn write_one(area: &mut [u8], nand: &[u8], s: Closed, q: Query, end: u64) -> u64
     requires q_len_bound { (length (rows_in (closed_rows nand.now s q)) ≤ end) × (end * record_width ≤ length area.old) }
     ensures { WrittenUpTo area.old area.new (rows_in (closed_rows nand.now s q)) end result }
 {
-    let m = visit::closed_matches(nand, s, q);
-    let set = m.set;
+    let Some(set) = visit::closed_matches(nand, s, q) else {
+        return end;
+    };
     let row = end - set.count() as u64;
     let lifts = visit::closed_lifts(nand, s);
     let g = visit::closed_records(s);
@@ -76,48 +68,14 @@ fn write_open(
     if g.count == 0 {
         return end;
     }
-    let m = visit::open_matches(nand, nor, page, g, q);
-    let set = m.set;
+    let Some(set) = visit::open_matches(nand, nor, page, g, q) else {
+        return end;
+    };
     let row = end - set.count() as u64;
     let lifts = visit::open_lifts(nand, g);
     let r = visit::open_records(g);
     put_rows(area, row as usize, lifts, page, r, set);
     row
-}
-
-// One segment on.
-fn write_on(area: &mut [u8], nand: &[u8], slots: u64, oldest: u32, q: Query, w: Writing) -> Writing
-    requires nand_len { (length nand.now ≡ slots * slot_width) × (1 ≤ q.k1) × (w.row * record_width ≤ length area.old) }
-    requires sound { Sound slots w.c }
-    requires done_value { w.done ≡ false }
-    requires count_is { CountIs w.row (rows_after nand.now slots (serials_from oldest) q w.c) }
-    ensures { WritesOn nand.now slots (serials_from oldest) q area.old area.new w result }
-{
-    let c = w.c;
-    let row = w.row;
-    if walk::at_end(c, oldest) {
-        return Writing { done: true, c, row };
-    }
-    let p = c.next;
-    let seen = walk::look(nand, slots, q, p.slot, c.before);
-    let step = walk::step_of(p.slot, seen);
-    match step {
-        Step::End => Writing { done: true, c, row },
-        Step::Damage => Writing { done: true, c, row },
-        Step::Pass(d) => Writing {
-            done: false,
-            c: d,
-            row,
-        },
-        Step::Visit(s, d) => {
-            let before = write_one(area, nand, s, q, row);
-            Writing {
-                done: false,
-                c: d,
-                row: before,
-            }
-        }
-    }
 }
 
 // The rows of the closed segments from a cursor on, `row` of them, from the area's start on.
@@ -136,17 +94,11 @@ fn write_closed(
     ensures { area.new
         ≡ written_in area.old (rows_after nand.now slots (serials_from oldest) q c) }
 {
-    let mut w = Writing {
-        done: false,
-        c,
-        row,
-    };
-    loop {
-        w = write_on(area, nand, slots, oldest, q, w);
-        let done = w.done;
-        if done {
-            return;
-        }
+    let mut at = c;
+    let mut end = row;
+    while let Ok(Some((s, d))) = ahead::onward(nand, slots, oldest, q, at) {
+        end = write_one(area, nand, s, q, end);
+        at = d;
     }
 }
 

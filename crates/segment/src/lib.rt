@@ -1,7 +1,7 @@
 // The pages that a close programs (document 01, "Segments"; "Chips and slots": pages of a slot).
 #![tactic(auto)]
 
-ghost use Rattle.std.specs.Prelude.{◌≡◌, true, ◌+◌, ◌*◌, ◌≤◌, ◌<◌, min, length};
+ghost use Rattle.std.specs.Prelude.{◌≡◌, true, ◌+◌, ◌*◌, ◌≤◌, ◌<◌, length};
 ghost use Rattle.tree.specs.Rules.{buckets_most};
 ghost use Rattle.lift.specs.Rows.{lifts_most};
 ghost use Rattle.flash.specs.Chip.{nor_width, slot_pages, slot_width};
@@ -22,12 +22,6 @@ fn ones() -> [u8; PAGE_BYTES]
     [255u8; PAGE_BYTES]
 }
 
-fn smaller(a: usize, b: usize) -> usize
-    ensures { result ≡ min a b }
-{
-    if a <= b { a } else { b }
-}
-
 // Tree page p: its buckets, the rest 255.
 fn tree_page(nor: &[u8], buckets: u8, p: usize) -> [u8; PAGE_BYTES]
     requires { (20 ≤ p) × (p < 29) × (tree_start p < bucket_start buckets) × (bucket_start buckets ≤ length nor.now) }
@@ -36,9 +30,8 @@ fn tree_page(nor: &[u8], buckets: u8, p: usize) -> [u8; PAGE_BYTES]
     let mut d = ones();
     let a = tree::page_start(Page(p));
     let end = tree::start_of(Bucket(buckets));
-    let n = smaller(PAGE_BYTES, end - a);
-    let e = a + n;
-    codec::copy(&mut d, 0, &nor[a..e]);
+    let n = PAGE_BYTES.min(end - a);
+    codec::copy(&mut d, 0, &nor[a..a + n]);
     d
 }
 
@@ -47,11 +40,11 @@ fn holds_bucket(buckets: u8, p: usize) -> bool
     ensures { result ≡ holds_bucket buckets p }
 {
     if buckets == 0 {
-        return false;
+        false
+    } else {
+        let last = tree::place_of(Bucket(buckets - 1));
+        p <= last.page.0
     }
-    let last = tree::place_of(Bucket(buckets - 1));
-    let page = last.page;
-    p <= page.0
 }
 
 // Whether a close programs page p: the part-filled lift page, the tree pages that hold a bucket, page 29, page 30 for five
@@ -61,13 +54,12 @@ pub fn is_due(count: u16, buckets: u8, p: usize) -> bool
 {
     if p < flash::TREE_FIRST {
         let n = count as usize;
-        return !(n % lift::LIFTS_PER_PAGE == 0) & (p == n / lift::LIFTS_PER_PAGE);
+        (n % lift::LIFTS_PER_PAGE != 0) & (p == n / lift::LIFTS_PER_PAGE)
+    } else if p < flash::BLOOM_FIRST {
+        holds_bucket(buckets, p)
+    } else {
+        (p != flash::BLOOM_SECOND) | (bloom::sections_of(count) == FIVE_SECTIONS)
     }
-    if p < flash::BLOOM_FIRST {
-        return holds_bucket(buckets, p);
-    }
-    let sections = bloom::sections_of(count);
-    !(p == flash::BLOOM_SECOND) | (sections == FIVE_SECTIONS)
 }
 
 // What a close programs into page p.
@@ -77,16 +69,14 @@ pub fn page_image(nor: &[u8], c: Closing, p: usize) -> [u8; PAGE_BYTES]
     ensures { result ≡ close_page nor.now c p }
 {
     if p < flash::TREE_FIRST {
-        return c.page;
+        c.page
+    } else if p < flash::BLOOM_FIRST {
+        tree_page(nor, c.buckets, p)
+    } else if p < flash::HEADER_LAST {
+        bloom::bloom_page(nor, c.bloom, c.count, p - flash::BLOOM_FIRST)
+    } else {
+        header::header_page(c)
     }
-    if p < flash::BLOOM_FIRST {
-        return tree_page(nor, c.buckets, p);
-    }
-    if p < flash::HEADER_LAST {
-        let buffer = c.bloom;
-        return bloom::bloom_page(nor, buffer, c.count, p - flash::BLOOM_FIRST);
-    }
-    header::header_page(c)
 }
 
 // Page p need not be programmed, or is erased.
@@ -94,10 +84,7 @@ fn is_ready(nand: &[u8], slot: usize, count: u16, buckets: u8, p: usize) -> bool
     requires { (slot * slot_width + slot_width ≤ length nand.now) × (p < slot_pages) }
     ensures { result ≡ page_ready nand.now slot count buckets p }
 {
-    if is_due(count, buckets, p) {
-        return flash::is_erased(nand, slot, Page(p));
-    }
-    true
+    !is_due(count, buckets, p) || flash::is_erased(nand, slot, Page(p))
 }
 
 // Whether all pages that a close programs are erased.
@@ -105,12 +92,10 @@ pub fn pages_erased(nand: &[u8], slot: usize, count: u16, buckets: u8) -> bool
     requires { slot * slot_width + slot_width ≤ length nand.now }
     ensures { result ≡ close_erased nand.now slot count buckets }
 {
-    let mut p: usize = 0;
-    while p < flash::SLOT_PAGES {
+    for p in 0..flash::SLOT_PAGES {
         if !is_ready(nand, slot, count, buckets, p) {
             return false;
         }
-        p += 1;
     }
     true
 }
@@ -133,9 +118,7 @@ pub fn program_pages(nand: &mut [u8], nor: &[u8], slot: usize, c: Closing)
         × (1 ≤ c.count) × (c.count ≤ lifts_most) × (c.buckets ≤ buckets_most) }
     ensures { nand.new ≡ close_programmed nand.old nor.now slot c }
 {
-    let mut p: usize = 0;
-    while p < flash::SLOT_PAGES {
+    for p in 0..flash::SLOT_PAGES {
         program_page(nand, nor, slot, c, p);
-        p += 1;
     }
 }

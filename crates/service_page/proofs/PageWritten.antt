@@ -1,10 +1,11 @@
 -- The lines of the service page as the code writes them: fields written side by side are one line. Assumes nothing.
 use mathlib.Core.Path.{◌≡◌, refl, sym, ap, ◌∙◌}
 use mathlib.Core.List.{List, [], ◌∷◌, ◌++◌, append_assoc, append-nil}
-use Prim.Native.Nat.{ℕ, zero, suc, ◌+◌, ◌-◌, ◌*◌, ◌/◌, ◌≤◌, ◌<◌}
+use Prim.Native.Nat.{ℕ, zero, suc, ◌+◌, ◌-◌, ◌*◌, ◌≤◌, ◌<◌}
 use native.Mathlib.Omega.{arith}
-use borrow.Author.Tests.{ne_eqb}
 use lib.ListN.{length, get_or, length-append}
+use Rattle.std.specs.Prelude.{sum}
+use Rattle.std.proofs.lemmas.List.Recursion.{is_sum_by}
 use Rattle.codec.specs.Area.{splice}
 use Rattle.codec.proofs.Areas.{length_repeated, splice_next, splice_none}
 use Rattle.plate.specs.Total.{total}
@@ -68,14 +69,6 @@ module _ (s : List ℕ) (at : ℕ) (h : at + 41 ≤ length s) where
       four_fields s at (spaces 4) (number 9 all) (spaces 27) (10 ∷ []) (omega arith) (omega arith) (omega arith) (omega arith)
 
 -- ---- the percentage
-
-pub share_none : (count all : ℕ) → all ≡ 0 → 0 ≡ percentage count all
-unfolding percentage
-share_none count all e = rw e
-
-pub share_some : (count all : ℕ) → (all ≡ 0 → ⊥) → 100 * count / all ≡ percentage count all
-unfolding percentage
-share_some count all h = rw (ne_eqb all 0 h)
 
 -- ---- the lines have 40 characters
 
@@ -157,3 +150,9 @@ length_page t1 t2 counts n =
     let a = length_heading t1 t2 in
     let b = length_total (total counts) in
     rw (← page_text t1 t2 counts) (simp length-append (omega (arith, length_plates counts (length counts))))
+
+-- ---- the sum of the counts, as the library has it
+
+pub total_sum : (counts : List ℕ) → total counts ≡ sum counts
+unfolding total
+total_sum = is_sum_by total (λ n. n) refl (λ n ns. refl)

@@ -1,7 +1,7 @@
 // The service page (document 02, W-201): a tally laid out for the wall, line by line.
 #![tactic(auto)]
 
-ghost use Rattle.std.specs.Prelude.{◌≡◌, [], ◌∷◌, ◌++◌, ◌+◌, ◌*◌, ◌^◌, ◌≤◌, ◌<◌, length};
+ghost use Rattle.std.specs.Prelude.{◌≡◌, [], ◌∷◌, ◌++◌, ◌+◌, ◌*◌, ◌^◌, ◌≤◌, ◌<◌, length, sum};
 ghost use Rattle.codec.specs.Area.{splice};
 ghost use Rattle.plate.specs.Total.{total};
 ghost use Rattle.plate.specs.Plate.{plates};
@@ -37,14 +37,12 @@ fn put_heading(s: &mut [u8], at: usize, t1: u64, t2: u64)
 }
 
 // "percentage rounded down"
+#[tactic(auto, unfolding(crate::specs::Page::percentage))]
 fn percentage(count: u64, all: u64) -> u64
     requires { count < 2 ^ 57 }
     ensures { result ≡ Page.percentage count all }
 {
-    if all == 0 {
-        return 0;
-    }
-    100 * count / all
+    (100 * count).checked_div(all).unwrap_or(0)
 }
 
 // One plate: its number, its count and its percentage of all.
@@ -66,11 +64,9 @@ fn put_plates(s: &mut [u8], at: usize, counts: [u64; PLATES], all: u64)
     ensures { s.new ≡ splice s.old at (Page.text_of (Page.plate_lines counts plates)) }
 {
     let mut to = at;
-    let mut left = PLATES;
-    while 0 < left {
-        left -= 1;
-        let count = counts[left];
-        put_plate(s, to, all, left as u64, count);
+    for plate in (0..PLATES).rev() {
+        let count = counts[plate];
+        put_plate(s, to, all, plate as u64, count);
         to += LINE_BYTES;
     }
 }
@@ -87,17 +83,11 @@ fn put_total(s: &mut [u8], at: usize, all: u64)
 }
 
 // The lifts of all plates together.
-fn total_of(counts: [u64; PLATES]) -> u64
-    requires { total counts < 2 ^ 57 }
-    ensures { result ≡ total counts }
+fn total_of(counts: &[u64]) -> u64
+    requires { sum counts.now < 2 ^ 57 }
+    ensures { result ≡ sum counts.now }
 {
-    let mut sum: u64 = 0;
-    let mut i: usize = 0;
-    while i < PLATES {
-        sum += counts[i];
-        i += 1;
-    }
-    sum
+    counts.iter().sum()
 }
 
 // The page of a window and its counts, from `at`. The percentages want room for 100 times a count.
@@ -105,7 +95,7 @@ pub fn put_page(s: &mut [u8], at: usize, t1: u64, t2: u64, counts: [u64; PLATES]
     requires { (at + Page.page_bytes ≤ length s.old) × (total counts < 2 ^ 57) }
     ensures { s.new ≡ splice s.old at (Page.page_of t1 t2 counts) }
 {
-    let all = total_of(counts);
+    let all = total_of(&counts);
     put_heading(s, at, t1, t2);
     put_plates(s, at + LINE_BYTES, counts, all);
     put_total(s, at + TOTAL_AT, all);

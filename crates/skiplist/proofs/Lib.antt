@@ -1,4 +1,3 @@
-pub mod Paint
 pub mod Pointers
 pub mod Nodes
 pub mod Levels

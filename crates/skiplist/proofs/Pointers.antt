@@ -1,51 +1,51 @@
 -- Pointers in bytes: decode of encode, and lengths, over the width of the serial. Assumes nothing.
-use mathlib.Core.Path.{◌≡◌, sym, ap, ap₂, ◌∙◌}
+use mathlib.Core.Path.{◌≡◌, refl, sym, ap, ap₂, ◌∙◌}
 use mathlib.Core.List.{List, [], ◌∷◌, ◌++◌, append_assoc, append-nil}
-use Prim.Native.Nat.{ℕ, zero, suc, ◌+◌, ◌*◌, ◌^◌, ◌≤◌, ◌<◌}
+use Prim.Native.Nat.{ℕ, zero, suc, ◌+◌, ◌-◌, ◌*◌, ◌^◌, ◌≤◌, ◌<◌}
 use native.Mathlib.Nat.{mul-le-mul_right}
 use native.Mathlib.Omega.{arith}
 use lib.ListN.{length, get_or, length-append}
 use Rattle.codec.specs.Area.{part, splice}
 use Rattle.codec.specs.Number.{le, bytes, number_at}
-use Rattle.codec.proofs.Areas.{splice_next, part_add, part_part, part_all, part_append_left, part_append_right}
+use Rattle.codec.proofs.Areas.{splice_none, splice_next, part_add, part_part, part_all, part_append_left, part_append_right}
 use Rattle.codec.proofs.Numbers.{length_bytes, le_bytes, put_get}
 use Rattle.form.specs.declared.Form.{Form}
-use Rattle.form.specs.declared.Form.TheVariants.{Old, New}
+use Rattle.form.specs.declared.Form.TheVariants.{Old}
 use Rattle.form.specs.Forms.{serial_width, pointer_width}
 use Rattle.skiplist.specs.declared.Pointer.{Pointer}
 use Rattle.skiplist.specs.Skip.{pointer}
 use Rattle.skiplist.specs.PointerBytes.{pointer_bytes, pointers_bytes, pointer_at, pointers_at}
 
--- a pointer written in its numbers
-pub put_old : (s s1 s2 : List ℕ) (at : ℕ) (p : Pointer) → at + 10 ≤ length s → s1 ≡ splice s at (bytes 2 p.slot)
-    → s2 ≡ splice s1 (at + 2) (bytes 8 p.time) → s2 ≡ splice s at (pointer_bytes Old p)
-unfolding pointer_bytes bytes
-put_old s s1 s2 at p h e f =
-    let l = length_bytes 2 p.slot in
-    rw (f, e) (splice_next s at (bytes 2 p.slot) (at + 2) (bytes 8 p.time) (omega arith) (omega arith))
-
-pub put_new : (s s1 s2 s3 : List ℕ) (at : ℕ) (p : Pointer) → at + 14 ≤ length s → s1 ≡ splice s at (bytes 2 p.slot)
-    → s2 ≡ splice s1 (at + 2) (bytes 4 p.serial) → s3 ≡ splice s2 (at + 6) (bytes 8 p.time)
-    → s3 ≡ splice s at (pointer_bytes New p)
+-- a pointer written in its numbers, n bytes in all
+pub put_numbers : (f : Form) (s s1 s2 s3 : List ℕ) (at n : ℕ) (p : Pointer) → at + n ≤ length s → n ≡ pointer_width f
+    → s1 ≡ splice s at (bytes 2 p.slot) → s2 ≡ splice s1 (at + 2) (bytes (serial_width f) p.serial)
+    → s3 ≡ splice s2 (at + n - 8) (bytes 8 p.time) → s3 ≡ splice s at (pointer_bytes f p)
 unfolding pointer_bytes
-put_new s s1 s2 s3 at p h e f g =
+put_numbers f s s1 s2 s3 at n p h w e1 e2 e3 =
     let k = length_bytes 2 p.slot in
-    let l = length_bytes 4 p.serial in
-    let m = length-append (bytes 2 p.slot) (bytes 4 p.serial) in
-    rw (g, f, e) (ap (λ (t : List ℕ). splice t (at + 6) (bytes 8 p.time))
-    (splice_next s at (bytes 2 p.slot) (at + 2) (bytes 4 p.serial) (omega arith) (omega arith))
-    ∙ splice_next s at (bytes 2 p.slot ++ bytes 4 p.serial) (at + 6) (bytes 8 p.time) (omega arith) (omega arith)
-    ∙ ap (splice s at) (append_assoc (bytes 2 p.slot) (bytes 4 p.serial) (bytes 8 p.time)))
+    let l = length_bytes (serial_width f) p.serial in
+    let m = length-append (bytes 2 p.slot) (bytes (serial_width f) p.serial) in
+    rw (e3, e2, e1) (ap (λ (t : List ℕ). splice t (at + n - 8) (bytes 8 p.time))
+    (splice_next s at (bytes 2 p.slot) (at + 2) (bytes (serial_width f) p.serial) (omega arith) (omega arith))
+    ∙ splice_next s at (bytes 2 p.slot ++ bytes (serial_width f) p.serial) (at + n - 8) (bytes 8 p.time) (omega arith) (omega arith)
+    ∙ ap (splice s at) (append_assoc (bytes 2 p.slot) (bytes (serial_width f) p.serial) (bytes 8 p.time)))
+
+-- a serial of no bytes is left out
+pub put_no_serial : (s : List ℕ) (at serial : ℕ) → s ≡ splice s at (bytes (serial_width Old) serial)
+unfolding bytes
+put_no_serial s at serial = sym (splice_none s at [] refl)
+
+pub no_serial : (s : List ℕ) (at : ℕ) → 0 ≡ number_at s at (serial_width Old)
+unfolding le part
+no_serial s at = refl
 
 -- a pointer read from its numbers
-pub read_old : (s : List ℕ) (at : ℕ) → pointer (number_at s at 2) 0 (number_at s (at + 2) 8) ≡ pointer_at Old s at
-unfolding pointer_at part le
-read_old s at = let z : at + 2 + 0 ≡ at + 2 = omega arith in rw z
-
-pub read_new : (s : List ℕ) (at : ℕ)
-    → pointer (number_at s at 2) (number_at s (at + 2) 4) (number_at s (at + 6) 8) ≡ pointer_at New s at
+pub read_numbers : (f : Form) (s : List ℕ) (at n serial : ℕ) → n ≡ pointer_width f → serial ≡ number_at s (at + 2) (serial_width f)
+    → pointer (number_at s at 2) serial (number_at s (at + n - 8) 8) ≡ pointer_at f s at
 unfolding pointer_at
-read_new s at = let z : at + 2 + 4 ≡ at + 6 = omega arith in rw z
+read_numbers f s at n serial w e =
+    let z : at + n - 8 ≡ at + 2 + serial_width f = omega arith in
+    rw (z, e)
 
 module _ (f : Form) where
   abbrev w : ℕ

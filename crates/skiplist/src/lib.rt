@@ -16,6 +16,9 @@ pub const LEVELS: usize = 4;
 // "none is slot 65,535"
 const NO_SLOT: u16 = 65535;
 
+// A pointer ends in its start time.
+const TIME_BYTES: usize = 8;
+
 #[derive(Clone, Copy)]
 pub struct Pointer {
     // the slot of a closed segment, 65,535 for none; its serial; its start time
@@ -34,11 +37,7 @@ impl Pointer {
     pub fn new(slot: u16, serial: u32, time: u64) -> Pointer
         ensures { result ≡ pointer slot serial time }
     {
-        Pointer {
-            slot: slot,
-            serial: serial,
-            time: time,
-        }
+        Pointer { slot, serial, time }
     }
 
     pub fn is_none(self) -> bool
@@ -66,15 +65,14 @@ impl Pointer {
 pub fn level_of(serial: u32) -> usize
     ensures { (result ≡ level_of serial) × (1 ≤ result) × (result ≤ levels) }
 {
-    let n = 1 + u32::trailing_zeros(serial) as usize;
-    if n <= LEVELS { n } else { LEVELS }
+    let n = 1 + serial.trailing_zeros() as usize;
+    n.min(LEVELS)
 }
 
 pub fn no_heads() -> [Pointer; LEVELS]
     ensures { result ≡ no_heads }
 {
-    let none = Pointer::NONE;
-    [none; LEVELS]
+    [Pointer::NONE; LEVELS]
 }
 
 // The first `level` heads, the others none.
@@ -83,11 +81,7 @@ pub fn node_of(heads: [Pointer; LEVELS], level: usize) -> [Pointer; LEVELS]
     ensures { result ≡ node_of heads level }
 {
     let mut n = heads;
-    let mut i = level;
-    while i < LEVELS {
-        n[i] = Pointer::NONE;
-        i += 1;
-    }
+    n[level..].fill(Pointer::NONE);
     n
 }
 
@@ -97,11 +91,7 @@ fn heads_after(heads: [Pointer; LEVELS], level: usize, p: Pointer) -> [Pointer; 
     ensures { result ≡ heads_after heads level p }
 {
     let mut n = heads;
-    let mut i: usize = 0;
-    while i < level {
-        n[i] = p;
-        i += 1;
-    }
+    n[..level].fill(p);
     n
 }
 
@@ -123,28 +113,12 @@ pub fn pointer_at(s: &[u8], at: usize, form: Form) -> Pointer
     requires { at + pointer_width form ≤ length s.now }
     ensures { result ≡ pointer_at form s.now at }
 {
-    match form {
-        Form::Old => old_pointer_at(s, at),
-        Form::New => new_pointer_at(s, at),
-    }
-}
-
-fn old_pointer_at(s: &[u8], at: usize) -> Pointer
-    requires { at + 10 ≤ length s.now }
-    ensures { result ≡ pointer_at Old s.now at }
-{
     let slot = codec::get_u16(s, at);
-    let time = codec::get_u64(s, at + 2);
-    Pointer::new(slot, 0, time)
-}
-
-fn new_pointer_at(s: &[u8], at: usize) -> Pointer
-    requires { at + 14 ≤ length s.now }
-    ensures { result ≡ pointer_at New s.now at }
-{
-    let slot = codec::get_u16(s, at);
-    let serial = codec::get_u32(s, at + 2);
-    let time = codec::get_u64(s, at + 6);
+    let serial = match form {
+        Form::Old => 0,
+        Form::New => codec::get_u32(s, at + 2),
+    };
+    let time = codec::get_u64(s, at + form.pointer_bytes() - TIME_BYTES);
     Pointer::new(slot, serial, time)
 }
 
@@ -152,7 +126,7 @@ pub fn pointers_at(s: &[u8], at: usize, form: Form) -> [Pointer; LEVELS]
     requires { at + levels * pointer_width form ≤ length s.now }
     ensures { result ≡ pointers_at form s.now at }
 {
-    let n = form::pointer_bytes(form);
+    let n = form.pointer_bytes();
     let a = pointer_at(s, at, form);
     let b = pointer_at(s, at + n, form);
     let c = pointer_at(s, at + 2 * n, form);
@@ -164,34 +138,19 @@ pub fn put_pointer(s: &mut [u8], at: usize, p: Pointer, form: Form)
     requires { at + pointer_width form ≤ length s.old }
     ensures { s.new ≡ splice s.old at (pointer_bytes form p) }
 {
+    codec::put_u16(s, at, p.slot);
     match form {
-        Form::Old => put_old_pointer(s, at, p),
-        Form::New => put_new_pointer(s, at, p),
+        Form::Old => {}
+        Form::New => codec::put_u32(s, at + 2, p.serial),
     }
-}
-
-fn put_old_pointer(s: &mut [u8], at: usize, p: Pointer)
-    requires { at + 10 ≤ length s.old }
-    ensures { s.new ≡ splice s.old at (pointer_bytes Old p) }
-{
-    codec::put_u16(s, at, p.slot);
-    codec::put_u64(s, at + 2, p.time);
-}
-
-fn put_new_pointer(s: &mut [u8], at: usize, p: Pointer)
-    requires { at + 14 ≤ length s.old }
-    ensures { s.new ≡ splice s.old at (pointer_bytes New p) }
-{
-    codec::put_u16(s, at, p.slot);
-    codec::put_u32(s, at + 2, p.serial);
-    codec::put_u64(s, at + 6, p.time);
+    codec::put_u64(s, at + form.pointer_bytes() - TIME_BYTES, p.time);
 }
 
 pub fn put_pointers(s: &mut [u8], at: usize, p: [Pointer; LEVELS], form: Form)
     requires { at + levels * pointer_width form ≤ length s.old }
     ensures { s.new ≡ splice s.old at (pointers_bytes form p) }
 {
-    let n = form::pointer_bytes(form);
+    let n = form.pointer_bytes();
     put_pointer(s, at, p[0], form);
     put_pointer(s, at + n, p[1], form);
     put_pointer(s, at + 2 * n, p[2], form);

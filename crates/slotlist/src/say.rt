@@ -3,17 +3,8 @@ ghost use Rattle.std.specs.Prelude.{◌+◌, ◌*◌, ◌≤◌, length};
 ghost use Rattle.lift.specs.Record.{record_width};
 
 use lines::Line;
-use store::{Answer, State};
+use store::State;
 
-const LETTER_A: u8 = 65;
-
-const LETTER_C: u8 = 67;
-
-const LETTER_G: u8 = 71;
-
-const LETTER_Q: u8 = 81;
-
-const LETTER_T: u8 = 84;
 // Lines with their line feeds: letter and number; these and a count; these and 22 counts; a lift.
 const HEAD_BYTES: usize = 5;
 
@@ -38,7 +29,7 @@ fn head(rt: &impl Print, letter: u8, number: u8) {
 // The head of an accepted search and its count.
 fn count(rt: &impl Print, n: u64) {
     let mut o = [lines::LINE_FEED; COUNT_BYTES];
-    answers::put_head(&mut o, LETTER_Q, 0);
+    answers::put_head(&mut o, b'Q', 0);
     answers::put_count(&mut o, 4, n);
     put(rt, &o);
 }
@@ -57,39 +48,34 @@ fn row(rt: &impl Print, area: &[u8], at: usize)
 // A line for each lift found.
 fn lifts(rt: &impl Print, area: &[u8], found: u64) {
     let n = desk::rows(area, found);
-    let mut i: usize = 0;
-    while i < n {
+    for i in 0..n {
         row(rt, area, i);
-        i += 1;
     }
 }
 
 // A search: its number or, if it is accepted, its count and the lifts.
 fn search(rt: &impl Print, nand: &[u8], nor: &[u8], s: State, t1: u64, t2: u64, k1: i32, k2: i32) {
     let mut area = [0u8; desk::RESULT_BYTES];
-    let f = desk::search(nand, nor, s, t1, t2, k1, k2, &mut area);
-    let n = f.number;
-    if n != 0 {
-        head(rt, LETTER_Q, n);
-        return;
+    match desk::search(nand, nor, s, t1, t2, k1, k2, &mut area) {
+        Err(ground) => head(rt, b'Q', ground.number()),
+        Ok(f) => {
+            count(rt, f.count);
+            lifts(rt, &area, f.count);
+        }
     }
-    count(rt, f.count);
-    lifts(rt, &area, f.count);
 }
 
 // A tally: its number, and its counts if it is accepted.
 fn tally(rt: &impl Print, nand: &[u8], nor: &[u8], s: State, t1: u64, t2: u64) {
-    let t = desk::tally(nand, nor, s, t1, t2);
-    let n = t.number;
-    if n != 0 {
-        head(rt, LETTER_T, n);
-        return;
+    match desk::tally(nand, nor, s, t1, t2) {
+        Err(ground) => head(rt, b'T', ground.number()),
+        Ok(counts) => {
+            let mut o = [lines::LINE_FEED; COUNTS_BYTES];
+            answers::put_head(&mut o, b'T', 0);
+            answers::put_counts(&mut o, counts);
+            put(rt, &o);
+        }
     }
-    let counts = t.counts;
-    let mut o = [lines::LINE_FEED; COUNTS_BYTES];
-    answers::put_head(&mut o, LETTER_T, 0);
-    answers::put_counts(&mut o, counts);
-    put(rt, &o);
 }
 
 // A tally's service page.
@@ -99,13 +85,12 @@ fn page(rt: &impl Print, nand: &[u8], nor: &[u8], s: State, t1: u64, t2: u64) {
     put(rt, &o[..n]);
 }
 
-// The answer to a line, which `a` was carried out for; a line of no form prints `?`.
-pub fn answer(rt: &impl Print, nand: &[u8], nor: &[u8], a: Answer, l: Line) {
-    let s = a.state;
+// The answer to a line that was carried out: its call's number, or what the state after it answers; a line of no form prints `?`.
+pub fn answer(rt: &impl Print, nand: &[u8], nor: &[u8], s: State, number: u8, l: Line) {
     match l {
-        Line::Append(_, _) => head(rt, LETTER_A, a.number),
-        Line::Close => head(rt, LETTER_C, a.number),
-        Line::Drop => head(rt, LETTER_G, a.number),
+        Line::Append(_, _) => head(rt, b'A', number),
+        Line::Close => head(rt, b'C', number),
+        Line::Drop => head(rt, b'G', number),
         Line::Search(t1, t2, k1, k2) => search(rt, nand, nor, s, t1, t2, k1, k2),
         Line::Tally(t1, t2) => tally(rt, nand, nor, s, t1, t2),
         Line::Page(t1, t2) => page(rt, nand, nor, s, t1, t2),

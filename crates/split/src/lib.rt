@@ -21,35 +21,21 @@ struct Predicted {
     h: u64,
 }
 
-// "Mid is the first that applies": the overlap of (x, y] with l..h as a small number.
+// "Mid is the first that applies": the overlap of (x, y] with l..h as a small number, as document 01, "The shape of each place", has it.
 fn overlap(x: u64, y: u64, l: u64, h: u64) -> u8
     ensures { result ≡ Split.overlap (value_of x) (value_of y) (value_of l) (value_of h) }
 {
     if (x < l) & (h < y) {
-        return 0;
+        0
+    } else if (l <= x) & (y <= h) {
+        1
+    } else if (l <= x) & ((x < h) & (h <= y)) {
+        2
+    } else if (x <= l) & ((l < y) & (y <= h)) {
+        3
+    } else {
+        4
     }
-    if (l <= x) & (y <= h) {
-        return 1;
-    }
-    if (l <= x) & ((x < h) & (h <= y)) {
-        return 2;
-    }
-    if (x <= l) & ((l < y) & (y <= h)) {
-        return 3;
-    }
-    4
-}
-
-fn smaller(a: u64, b: u64) -> u64
-    ensures { result ≡ min a b }
-{
-    if a <= b { a } else { b }
-}
-
-fn larger(a: u64, b: u64) -> u64
-    ensures { result ≡ max a b }
-{
-    if a <= b { b } else { a }
 }
 
 // Halves are rounded down, and an even offset keeps them so.
@@ -72,14 +58,14 @@ fn rule(case: u8, x: u64, y: u64, l: u64, h: u64) -> u64
             if x + x < h + l {
                 halfway(x, h)
             } else {
-                larger(h, halfway(x, y))
+                h.max(halfway(x, y))
             }
         }
         3 => {
             if h + l < y + y {
                 halfway(l, y)
             } else {
-                smaller(l, halfway(x, y))
+                l.min(halfway(x, y))
             }
         }
         _ => halfway(x, y),
@@ -92,9 +78,10 @@ fn bring(m: u64, x: u64, y: u64) -> u64
     ensures { value_of result ≡ Split.bring (value_of m) (value_of x) (value_of y) }
 {
     if y <= x + 1 {
-        return y;
+        y
+    } else {
+        m.max(x + 1).min(y - 1)
     }
-    smaller(larger(m, x + 1), y - 1)
 }
 
 fn mid(x: u64, y: u64, l: u64, h: u64) -> u64
@@ -105,20 +92,6 @@ fn mid(x: u64, y: u64, l: u64, h: u64) -> u64
     bring(rule(overlap(x, y, l, h), x, y, l, h), x, y)
 }
 
-fn wide(x: u32) -> u64
-    ensures { result ≡ x }
-{
-    x as u64
-}
-
-// A weight times a stored load.
-fn times(i: usize, y: u64) -> u64
-    requires { (i ≤ 12) × (y ≤ code_most) }
-    ensures { (result ≡ i * y) × (result ≤ 1800012) }
-{
-    (i as u64) * y
-}
-
 // l and h from the sum of 13 stored loads and the sum of each times its place: A = a − 13 × 50,001, D = w − 6a.
 fn fit(a: u64, w: u64) -> Predicted
     requires { (a ≤ 1950013) × (w ≤ 23400156) }
@@ -126,9 +99,10 @@ fn fit(a: u64, w: u64) -> Predicted
 {
     let p = 7 * w + FITTED_OFFSET - 28 * a;
     let q = 32 * w + FITTED_OFFSET - 178 * a;
-    let l = smaller(p, q) / 182;
-    let h = (larger(p, q) + 181) / 182;
-    Predicted { l, h }
+    Predicted {
+        l: p.min(q) / 182,
+        h: p.max(q).div_ceil(182),
+    }
 }
 
 fn predict(loads: [u32; LOADS_KEPT]) -> Predicted
@@ -137,12 +111,10 @@ fn predict(loads: [u32; LOADS_KEPT]) -> Predicted
 {
     let mut a: u64 = 0;
     let mut w: u64 = 0;
-    let mut i: usize = 0;
-    while i < 13 {
-        let y = wide(loads[i]);
+    for (i, load) in loads.iter().enumerate() {
+        let y = u64::from(*load);
         a += y;
-        w += times(i, y);
-        i += 1;
+        w += i as u64 * y;
     }
     fit(a, w)
 }
@@ -154,9 +126,7 @@ pub fn mid_of(x: u32, y: u32, loads: [u32; LOADS_KEPT]) -> u32
     ensures is { result ≡ Split.midpoint x y loads }
     ensures within { (x < result) × (result ≤ y) }
 {
-    let p = predict(loads);
-    let l = p.l;
-    let h = p.h;
+    let Predicted { l, h } = predict(loads);
     let m = mid(x as u64 + WORK_OFFSET, y as u64 + WORK_OFFSET, l, h);
     (m - WORK_OFFSET) as u32
 }

@@ -1,15 +1,17 @@
 -- A text cut into lines, and lines into stacks: line by line as the code reads them, and together again. The idea: the first line is what
 -- stands before the first line feed, and after it the text goes on as a text. Assumes nothing.
 use mathlib.Core.Path.{◌≡◌, refl, sym, ap, ◌∙◌}
-use mathlib.Core.Bool.{Bool, true, false, cond}
+use mathlib.Core.Bool.{Bool, true, false, cond, not}
 use mathlib.Core.List.{List, [], ◌∷◌, ◌++◌, append_assoc}
 use mathlib.Core.Logic.{◌⊎◌, inl, inr}
 use Prim.Native.Nat.{ℕ, suc, ◌+◌, ◌≤◌, ◌<◌}
 use native.Mathlib.Omega.{arith}
-use borrow.Author.Tests.{ltb-false, eqb-true, eq-eqb, ne_eqb}
+use borrow.Author.Tests.{ltb-false, eqb-true}
 use lib.Dec.{eqb, ltb}
-use lib.ListN.{length, take, drop, get_or, drop_of_length-le}
-use lib.Seq.{drop-cons, drop-length}
+use lib.ListN.{length, take, drop, drop_of_length-le}
+use lib.Seq.{drop-length}
+use Rattle.std.specs.Prelude.{Some, None, unwrap_or, nat_lt}
+use Rattle.std.specs.List.{position_or_len, position}
 use Rattle.stack_list.specs.ListForm.{onto_first, lines_of, is_blank, at_top, by_stacks, ended, further, text_of}
 use Rattle.stack_list.specs.Inner.Turns.{first_line}
 
@@ -54,20 +56,26 @@ after_line s end = go (ltb end (length s)) refl
     go true e = refl
     go false e = let l : length s ≤ suc end = omega (arith, ltb-false end (length s) e) in drop-length s ∙ sym (drop_of_length-le s l)
 
--- ---- the turns to the first line feed
+-- ---- where the first line feed stands
 
-module _ (s : List ℕ) (i : ℕ) where
-  pub feed_here : i < length s → get_or s i 0 ≡ 10 → length (first_line (drop i s)) ≡ 0
-  unfolding first_line
-  feed_here h e = rw (drop-cons s i 0 h, eq-eqb (get_or s i 0) 10 e)
+before_feed : (s : List ℕ) → position_or_len (λ b. eqb b 10) s ≡ length (first_line s)
+unfolding first_line
+before_feed [] = refl
+before_feed (b ∷ s) = go (eqb b 10) (before_feed s)
+  where
+    go : (t : Bool) → position_or_len (λ b. eqb b 10) s ≡ length (first_line s)
+        → cond (not t) (1 + position_or_len (λ b. eqb b 10) s) 0 ≡ length (cond t [] (b ∷ first_line s))
+    go true e = refl
+    go false e = omega arith
 
-  pub no_feed_here : i < length s → (get_or s i 0 ≡ 10 → ⊥) → length (first_line (drop i s)) ≡ suc (length (first_line (drop (suc i) s)))
-  unfolding first_line
-  no_feed_here h n = rw (drop-cons s i 0 h, ne_eqb (get_or s i 0) 10 n)
-
-  pub no_feed_left : length s ≡ i → length (first_line (drop i s)) ≡ 0
-  unfolding first_line
-  no_feed_left e = let d : drop i s ≡ [] = rw (← e) (drop-length s) in rw d
+-- or the text ends
+pub feed_place : (s : List ℕ) → unwrap_or (position (λ b. eqb b 10) s) (length s) ≡ length (first_line s)
+feed_place s = go (nat_lt (position_or_len (λ b. eqb b 10) s) (length s)) refl
+  where
+    go : (t : Bool) → nat_lt (position_or_len (λ b. eqb b 10) s) (length s) ≡ t
+        → unwrap_or (cond t (Some (position_or_len (λ b. eqb b 10) s)) None) (length s) ≡ length (first_line s)
+    go true e = before_feed s
+    go false e = omega (arith, ltb-false (position_or_len (λ b. eqb b 10) s) (length s) e, before_feed s, first_within s)
 
 -- ---- and together again
 

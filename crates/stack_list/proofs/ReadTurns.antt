@@ -1,15 +1,16 @@
 -- The turns of the loop that reads a list. The idea: the lines from here on, judged with the counts so far, decide about the whole text,
 -- and the numbers so far with those of the lines left are the whole text's. Assumes nothing.
 use mathlib.Core.Path.{◌≡◌, refl, sym, ap, ◌∙◌}
-use mathlib.Core.Bool.{Bool, true, false, cond}
+use mathlib.Core.Bool.{Bool, true, false, cond, ◌&&◌}
 use mathlib.Core.List.{List, [], ◌∷◌, ◌++◌, map, append_assoc, append-nil}
 use Prim.Native.Nat.{ℕ, suc, ◌+◌, ◌-◌, ◌*◌, ◌≤◌, ◌<◌}
 use native.Mathlib.Omega.{arith}
 use borrow.Author.Tests.{ltb-true, lt-ltb}
 use lib.Dec.{ltb}
-use lib.ListN.{length, take, drop, set, length-set, length-map, length-drop, drop_of_length-le}
+use lib.ListN.{length, take, drop, set, length-set, length-drop, drop_of_length-le}
 use lib.Seq.{drop-drop, take_all, take-suc-set, length-take-le}
 use Rattle.codec.proofs.Truth.{and_left, and_right}
+use Rattle.std.specs.Prelude.{Option, Some, None}
 use Rattle.lines.specs.Columns.{read_from}
 use Rattle.stack_list.specs.declared.reading.Read.{Read}
 use Rattle.stack_list.specs.ListForm.{lines_of, is_blank, plate_in, is_list}
@@ -24,9 +25,12 @@ module _ (text : List ℕ) (at : ℕ) (h : at < length text) where
   line_end = at + length (first_line (drop at text))
 
   -- from what is left of the text, lent as a part of it
-  pub end_at : (n : ℕ) → n ≡ length (first_line (take (length text - at) (drop at text))) → at + n ≡ line_end
+  abbrev rest : List ℕ
+  rest = take (length text - at) (drop at text)
+
+  pub end_at : (n : ℕ) → n ≡ length (first_line rest) → at + n ≡ line_end
   end_at n e =
-      let w : take (length text - at) (drop at text) ≡ drop at text = take_all (length text - at) (drop at text) (omega (arith, length-drop at text)) in
+      let w : rest ≡ drop at text = take_all (length text - at) (drop at text) (omega (arith, length-drop at text)) in
       ap (λ (k : ℕ). at + k) (e ∙ ap (λ (s : List ℕ). length (first_line s)) w)
 
   pub end_within : line_end ≤ length text
@@ -57,32 +61,47 @@ module _ (text : List ℕ) (at : ℕ) (h : at < length text) where
 
 -- ---- a line, read
 
-module _ (a n : ℕ) where
-  pub goes_on : (line : List ℕ) (ls : List (List ℕ)) → (read_line line a n).good ≡ true
-      → (list_from a n (line ∷ ls) ≡ list_from (read_line line a n).stacks (read_line line a n).plates ls)
-      × ((read_line line a n).number ≡ plate_in line)
-  unfolding read_line list_from is_blank read_from
-  goes_on [] ls g = (rw g, refl)
-  goes_on (b ∷ l) ls g =
-      let p = ltb-true 0 (plate_or0 (b ∷ l)) (and_right (ltb n 24) (ltb 0 (plate_or0 (b ∷ l))) g) in
-      (rw g, (plate_read (b ∷ l) p).1.1)
+went : (t : Bool) (x r : Read) → Some r ≡ cond t (Some x) None → (t ≡ true) × (r ≡ x)
+went true x r e = (refl, cc)
+went false x r e = cc
 
-  pub ends_here : (line : List ℕ) (ls : List (List ℕ)) → (read_line line a n).good ≡ false → list_from a n (line ∷ ls) ≡ false
-  unfolding read_line list_from is_blank
-  ends_here [] ls g = rw g
-  ends_here (b ∷ l) ls g = rw g
+stopped : (t : Bool) (x : Read) → None ≡ cond t (Some x) None → t ≡ false
+stopped true x e = cc
+stopped false x e = refl
+
+module _ (a n : ℕ) where
+  blank : Read
+  blank = record { number = 0; stacks = suc a; plates = 0 }
+
+  plate : List ℕ → Read
+  plate line = record { number = plate_or0 line; stacks = a; plates = suc n }
+
+  pub goes_on : (line : List ℕ) (ls : List (List ℕ)) (r : Read) → Some r ≡ read_line line a n
+      → (list_from a n (line ∷ ls) ≡ list_from r.stacks r.plates ls) × (r.number ≡ plate_in line)
+  unfolding read_line list_from is_blank read_from blank plate
+  goes_on [] ls r e = let w = went (ltb 0 n && ltb a 16) blank r e in rw w.1 (rw w.0, refl)
+  goes_on (b ∷ l) ls r e =
+      let w = went (ltb n 24 && ltb 0 (plate_or0 (b ∷ l))) (plate (b ∷ l)) r e in
+      let p = ltb-true 0 (plate_or0 (b ∷ l)) (and_right (ltb n 24) (ltb 0 (plate_or0 (b ∷ l))) w.0) in
+      rw w.1 (rw w.0, (plate_read (b ∷ l) p).1.1)
+
+  pub ends_here : (line : List ℕ) (ls : List (List ℕ)) → None ≡ read_line line a n → list_from a n (line ∷ ls) ≡ false
+  unfolding read_line list_from is_blank blank plate
+  ends_here [] ls e = rw (stopped (ltb 0 n && ltb a 16) blank e)
+  ends_here (b ∷ l) ls e = rw (stopped (ltb n 24 && ltb 0 (plate_or0 (b ∷ l))) (plate (b ∷ l)) e)
 
   -- the counts stay within the sizes, and the lines within the room for them
-  pub counts_on : (line : List ℕ) (k : ℕ) → 1 ≤ a → a ≤ 16 → n ≤ 24 → k + 25 ≤ 25 * a + n → (read_line line a n).good ≡ true
-      → (1 ≤ (read_line line a n).stacks) × (((read_line line a n).stacks ≤ 16) × (((read_line line a n).plates ≤ 24)
-      × (k + 1 + 25 ≤ 25 * (read_line line a n).stacks + (read_line line a n).plates)))
-  unfolding read_line is_blank
-  counts_on [] k h i m j g =
-      let l = ltb-true a 16 (and_right (ltb 0 n) (ltb a 16) g) in
-      (omega arith, (omega arith, (omega arith, omega arith)))
-  counts_on (b ∷ l) k h i m j g =
-      let l = ltb-true n 24 (and_left (ltb n 24) (ltb 0 (plate_or0 (b ∷ l))) g) in
-      (h, (i, (omega arith, omega arith)))
+  pub counts_on : (line : List ℕ) (k : ℕ) (r : Read) → 1 ≤ a → a ≤ 16 → n ≤ 24 → k + 25 ≤ 25 * a + n → Some r ≡ read_line line a n
+      → (1 ≤ r.stacks) × ((r.stacks ≤ 16) × ((r.plates ≤ 24) × (k + 1 + 25 ≤ 25 * r.stacks + r.plates)))
+  unfolding read_line is_blank blank plate
+  counts_on [] k r h i m j e =
+      let w = went (ltb 0 n && ltb a 16) blank r e in
+      let l = ltb-true a 16 (and_right (ltb 0 n) (ltb a 16) w.0) in
+      rw w.1 (omega arith, (omega arith, (omega arith, omega arith)))
+  counts_on (b ∷ l) k r h i m j e =
+      let w = went (ltb n 24 && ltb 0 (plate_or0 (b ∷ l))) (plate (b ∷ l)) r e in
+      let l = ltb-true n 24 (and_left (ltb n 24) (ltb 0 (plate_or0 (b ∷ l))) w.0) in
+      rw w.1 (h, (i, (omega arith, omega arith)))
 
 -- ---- the numbers
 
@@ -91,9 +110,6 @@ number_on : (ns : List ℕ) (k v : ℕ) (rest : List ℕ) → k < length ns → 
 number_on ns k v rest h =
     let e : k + 1 ≡ suc k = omega arith in
     rw (e, take-suc-set ns k v h) (append_assoc (take k ns) (v ∷ []) rest)
-
-no_list : (text ns : List ℕ) → is_list text ≡ false → Listed text ns 0
-no_list text ns e = record { count = rw e; most = omega arith; each = λ t. cc }
 
 -- where the loop stands
 pub record Reading (text first ns : List ℕ) (at lines stacks plates : ℕ) : Type 0 where
@@ -120,39 +136,34 @@ reading_first text ns = record {
 
 module _ (text first ns : List ℕ) (at lines stacks plates : ℕ) (v : Reading text first ns at lines stacks plates) (full : 399 ≤ length first)
   where
-    module _ (h : at < length text) (end : ℕ) (e : end ≡ line_end text at h) (r : Read)
-        (q : r ≡ read_line (take (end - at) (drop at text)) stacks plates) where
+    module _ (h : at < length text) (end : ℕ) (e : end ≡ line_end text at h) where
       abbrev line : List ℕ
       line = first_line (drop at text)
 
       abbrev next : ℕ
       next = cond (ltb end (length text)) (suc end) (length text)
 
-      as_read : read_line line stacks plates ≡ r
-      as_read = sym (rw (line_at text at h end e) at q)
+      as_read : (o : Option Read) → o ≡ read_line (take (end - at) (drop at text)) stacks plates → o ≡ read_line line stacks plates
+      as_read o q = rw (line_at text at h end e) at q
 
       lines_left : lines_of (drop at text) ≡ line ∷ lines_of (drop next text)
       lines_left = lines_on text at h end e
 
-      pub stops : r.good ≡ false → Listed text ns 0
-      stops g =
-          no_list text ns
-          (sym v.decides ∙ ap (list_from stacks plates) lines_left
-          ∙ ends_here stacks plates line (lines_of (drop next text)) (ap (λ (z : Read). z.good) as_read ∙ g))
+      pub stops : None ≡ read_line (take (end - at) (drop at text)) stacks plates → is_list text ≡ false
+      stops q =
+          sym v.decides ∙ ap (list_from stacks plates) lines_left
+          ∙ ends_here stacks plates line (lines_of (drop next text)) (as_read None q)
 
-      module _ (g : r.good ≡ true) where
-        went : (read_line line stacks plates).good ≡ true
-        went = ap (λ (z : Read). z.good) as_read ∙ g
-
+      module _ (r : Read) (q : Some r ≡ read_line (take (end - at) (drop at text)) stacks plates) where
         counts : (1 ≤ r.stacks) × ((r.stacks ≤ 16) × ((r.plates ≤ 24) × (lines + 1 + 25 ≤ 25 * r.stacks + r.plates)))
-        counts = rw as_read at (counts_on stacks plates line lines v.some v.few v.low v.room went)
+        counts = counts_on stacks plates line lines r v.some v.few v.low v.room (as_read (Some r) q)
 
         pub room_left : lines < length ns
         room_left = omega (arith, counts.1.0, counts.1.1.0, counts.1.1.1, v.same)
 
         pub reading_on : (at' : ℕ) → at' ≡ next → Reading text first (set ns lines r.number) at' (lines + 1) r.stacks r.plates
         reading_on at' a =
-            let f = rw as_read at (goes_on stacks plates line (lines_of (drop next text)) went) in
+            let f = goes_on stacks plates line (lines_of (drop next text)) r (as_read (Some r) q) in
             rw a
             (record {
               within = (next_place text at h end e).1;
@@ -169,18 +180,20 @@ module _ (text first ns : List ℕ) (at lines stacks plates : ℕ) (v : Reading 
                   ∙ v.whole;
             })
 
-    pub list_read : length text ≤ at → (plates ≡ 0 → ⊥) → Listed text ns lines
+    pub list_read : length text ≤ at → (plates ≡ 0 → ⊥) → Listed text (take lines ns)
     unfolding lines_of list_from
     list_read h s =
         let d : drop at text ≡ [] = drop_of_length-le text h in
         let l : lines ≤ length ns = omega (arith, v.room, v.few, v.low, v.same) in
-        let t : is_list text ≡ true = sym (rw d at v.decides) ∙ lt-ltb 0 plates (omega arith) in
-        let m : take lines ns ≡ map plate_in (lines_of text) = sym (append-nil (take lines ns)) ∙ (rw d at v.whole) in
-        let c : lines ≡ length (lines_of text) = sym (length-take-le lines ns l) ∙ ap length m ∙ length-map (lines_of text) plate_in in
-        record { count = rw t c; most = omega (arith, v.room, v.few, v.low); each = λ u. m }
+        let n : length (take lines ns) ≡ lines = length-take-le lines ns l in
+        record {
+          is = sym (rw d at v.decides) ∙ lt-ltb 0 plates (omega arith);
+          most = omega (arith, v.room, v.few, v.low);
+          each = sym (append-nil (take lines ns)) ∙ (rw d at v.whole);
+        }
 
-    pub none_in_last : length text ≤ at → plates ≡ 0 → Listed text ns 0
+    pub none_in_last : length text ≤ at → plates ≡ 0 → is_list text ≡ false
     unfolding lines_of list_from
     none_in_last h z =
         let d : drop at text ≡ [] = drop_of_length-le text h in
-        no_list text ns (sym (rw (d, z) at v.decides))
+        sym (rw (d, z) at v.decides)

@@ -21,9 +21,8 @@ pub fn generate(text: &[u8], out: &mut [u8]) -> usize
     ensures { (result ≤ length out.new) × (take result out.new ≡ generated text.now) }
 {
     let mut numbers = [0u32; NUMBERS];
-    let n = reading::read_list(text, &mut numbers);
-    if n == 0 {
-        return printing::put_refusal(out);
+    match reading::read_list(text, &mut numbers) {
+        Some(read) => printing::put_ends(read, out),
+        None => printing::put_refusal(out),
     }
-    printing::put_ends(&numbers[..n], out)
 }

@@ -37,9 +37,10 @@ fn put_turn(out: &mut [u8], at: usize, sum: u64, above: u64, plate: u64) -> usiz
     if plate == 0 {
         let blank = put_end(out, at, sum + above / 2);
         out[blank] = LINE_FEED;
-        return blank + 1;
+        blank + 1
+    } else {
+        put_end(out, at, sum + plate / 2)
     }
-    put_end(out, at, sum + plate / 2)
 }
 
 // The sum down to a plate; after a blank line the next stack begins.
@@ -47,10 +48,7 @@ fn sum_on(sum: u64, plate: u64) -> u64
     requires { (sum < 2 ^ 62) × (plate < 2 ^ 62) }
     ensures { result ≡ sum_on sum plate }
 {
-    if plate == 0 {
-        return 0;
-    }
-    sum + plate
+    if plate == 0 { 0 } else { sum + plate }
 }
 
 // The ends of stacks given by one number for each line; returns how many bytes they take.
@@ -61,13 +59,11 @@ pub fn put_ends(numbers: &[u32], out: &mut [u8]) -> usize
     let mut sum: u64 = 0;
     let mut above: u64 = 0;
     let mut at: usize = 0;
-    let mut i: usize = 0;
-    while i < numbers.len() {
-        let n = numbers[i] as u64;
+    for number in numbers {
+        let n = *number as u64;
         at = put_turn(out, at, sum, above, n);
         sum = sum_on(sum, n);
         above = n;
-        i += 1;
     }
     put_end(out, at, sum + above / 2)
 }

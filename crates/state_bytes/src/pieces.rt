@@ -71,18 +71,18 @@ pub struct Span {
     pub high: i32,
 }
 
-pub fn bloom_at(b: &[u8], at: usize) -> [u8; SECTION_BYTES]
-    requires { at + 128 ≤ length b.now }
-    ensures { result ≡ part b.now at 128 }
+// A buffer of N bytes from `at` on.
+pub fn bytes_at<const N: usize>(b: &[u8], at: usize) -> [u8; N]
+    requires { at + N ≤ length b.now }
+    ensures { result ≡ part b.now at N }
 {
-    let mut p = [0u8; SECTION_BYTES];
-    let end = at + 128;
-    codec::copy(&mut p, 0, &b[at..end]);
+    let mut p = [0u8; N];
+    p.copy_from_slice(&b[at..at + N]);
     p
 }
 
 // Where the heads stand, by the form.
-fn heads_from(form: Form) -> usize
+pub(crate) fn heads_from(form: Form) -> usize
     ensures { result ≡ heads_from form }
 {
     match form {

@@ -1,6 +1,8 @@
 -- The calls that write: their grounds in checking order (document 01, "Twelve grounds") and their outcomes, for any chips and any
 -- state. Assumes nothing.
 use Rattle.std.specs.Prelude.{Bool, true, false, cond, not, ◌&&◌, ◌||◌, List, map, ℕ, ◌-◌, ◌/◌, eqb, leb, ℤ, pos, length}
+use Rattle.std.specs.declared.result.Result.{Result}
+use Rattle.std.specs.declared.result.Result.TheVariants.{Ok, Err}
 use Rattle.codec.specs.Area.{part, all_ones}
 use Rattle.flash.specs.Chip.{slot_of, page_erased, chip_erased, erased_page, nor_tree}
 use Rattle.lift.specs.Limits.{stored}
@@ -12,6 +14,7 @@ use Rattle.skiplist.specs.Skip.{no_heads}
 use Rattle.segment.specs.Pages.{close_erased}
 use Rattle.tree.specs.Plan.{Plan, plan_on, is_damaged, is_no_room}
 use Rattle.tree.specs.Writes.{writes_of, all_clear}
+use Rattle.grounds.specs.declared.Ground.{Ground}
 use Rattle.bounds.specs.Grounds.{ground, nand_bad, nor_bad, format_ground, lift_ground}
 use Rattle.bounds.specs.Lifts.{no_loads}
 use Rattle.store.specs.declared.State.{State}
@@ -26,6 +29,11 @@ pub record Outcome : Type 0 where
 
 abbrev pub returned : ℕ → List ℕ → List ℕ → State → Outcome
 returned number nand nor s = record { number = number; world = world nand nor s }
+
+-- the state that stands after a call: the one that it hands back, or, refused, the one that it was called with
+abbrev pub next_state : State → Result State Ground → State
+next_state s (Ok t) = t
+next_state s (Err g) = s
 
 -- "A refusal returns its number alone and alters nothing."
 abbrev pub outcome : ℕ → World → World → Outcome

@@ -5,6 +5,7 @@ use bloom::SECTION_BYTES;
 pub mod pieces;
 
 ghost use Rattle.std.specs.Prelude.{◌≡◌, true, cond, [], ◌+◌, ◌-◌, ◌*◌, ◌%◌, ◌≤◌, ℤ, length};
+ghost use Rattle.grounds.specs.Numbers.{number_in};
 ghost use Rattle.tree.specs.Rules.{buckets_most};
 ghost use Rattle.lift.specs.Rows.{lifts_most};
 ghost use Rattle.flash.specs.Chip.{erased_page, nor_width, slot_width};
@@ -13,26 +14,32 @@ ghost use Rattle.bloom.specs.Bloom.{empty_section};
 ghost use Rattle.form.specs.declared.Form.TheVariants.{New};
 ghost use Rattle.grow.specs.Inner.Meaning.{meaning, Fitting};
 ghost use Rattle.store.specs.World.{world, put_world, nand_with, nor_with, state_given, page_with, bloom_with, fills_page, fills_section};
-ghost use Rattle.store.specs.Calls.{returned, append_outcome, room_world};
+ghost use Rattle.store.specs.Calls.{returned, next_state, append_outcome, room_world};
 ghost use Rattle.store.specs.Inner.Fields.{fields_of};
 ghost use Rattle.store.specs.Inner.Pieces.{Suits, drop_due, entry_ground, bounds_ground};
 
+use crate::State;
 use crate::fields::Fields;
-use crate::{Answer, State};
 use flash::PAGE_BYTES;
 use form::Form;
+use grounds::Ground;
 use grow::Plan;
 use lift::NOTE_BYTES;
 
 impl State {
     // Grounds 1 to 8.
-    pub fn entry_ground(self, nand: usize, nor: usize, slots: u64, time: u64, load: i32) -> u8
-        ensures { result ≡ entry_ground self nand nor slots time load }
+    #[tactic(auto, unfolding(crate::specs::Inner::Pieces::bounds_ground, crate::specs::Inner::Pieces::entry_ground))]
+    pub fn entry_ground(
+        self,
+        nand: usize,
+        nor: usize,
+        slots: u64,
+        time: u64,
+        load: i32,
+    ) -> Result<(), Ground>
+        ensures { number_in result ≡ entry_ground self nand nor slots time load }
     {
-        let n = self.ground(Form::New, 0, nand, nor, slots);
-        if n != 0 {
-            return n;
-        }
+        self.ground(Form::New, 0, nand, nor, slots)?;
         bounds::lift_ground(time, load, self.next, self.current)
     }
 
@@ -183,24 +190,11 @@ impl State {
         time: u64,
         load: i32,
         note: [u8; NOTE_BYTES],
-    ) -> Answer
-        ensures { returned result.number nand.new nor.new result.state
+    ) -> Result<State, Ground>
+        ensures { returned (number_in result) nand.new nor.new (next_state self result)
             ≡ append_outcome (world nand.old nor.old self) slots time load note }
     {
-        let a = pieces::plan_append(self, nand, nor, slots, time, load);
-        let m = a.number;
-        let is_refused = m != 0;
-        if is_refused {
-            return Answer {
-                number: m,
-                state: self,
-            };
-        }
-        let p = a.plan;
-        let s = pieces::carried_out(self, nand, nor, slots, time, load, note, p);
-        Answer {
-            number: 0,
-            state: s,
-        }
+        let p = pieces::plan_append(self, nand, nor, slots, time, load)?;
+        Ok(pieces::carried_out(self, nand, nor, slots, time, load, note, p))
     }
 }

@@ -1,6 +1,7 @@
 // The fields of a state that an append's plan and its grounds 10 and 11 go by: no times, no heads, no buffers, so that a caller who keeps
 // the state as bytes reads no more of it. What is promised holds of every state with these fields.
 ghost use Rattle.std.specs.Prelude.{◌≡◌, true, false, [], ◌-◌, ◌^◌, ◌≤◌, ◌<◌, ℤ, length};
+ghost use Rattle.grounds.specs.Numbers.{number_in};
 ghost use Rattle.tree.specs.Rules.{buckets_most};
 ghost use Rattle.lift.specs.Rows.{lifts_most};
 ghost use Rattle.flash.specs.Chip.{nor_width};
@@ -14,7 +15,7 @@ ghost use Rattle.store.specs.Calls.{plan_of, nor_clear, room_world, drops_first}
 ghost use Rattle.store.specs.Inner.Fields.{fields_of, Sized};
 ghost use Rattle.store.specs.Inner.Pieces.{Suits, later_ground, is_plain};
 
-use crate::append::pieces::Planned;
+use grounds::Ground;
 use grow::Plan;
 use lift::LOADS_KEPT;
 
@@ -31,7 +32,7 @@ pub struct Fields {
 
 impl Fields {
     // Where the load goes, by the buckets on its path.
-    fn plan(self, nor: &[u8], code: u32) -> Plan
+    pub fn plan(self, nor: &[u8], code: u32) -> Plan
         requires { (length nor.now ≡ nor_width) × (self.buckets ≤ buckets_most) × (self.count ≤ lifts_most) × (loads_ok self.loads ≡ true) }
         ensures is { (s : Whole.State) (load : ℤ) → fields_of s ≡ self → code ≡ stored load
             → meaning result ≡ plan_of (world [] nor.now s) load }
@@ -44,16 +45,16 @@ impl Fields {
     }
 
     // Grounds 10 and 11 of an append that closes first: the close erases NOR, so there is no damage.
-    fn blocked_closing(self, nand: &[u8], nor: &[u8], slots: u64) -> u8
+    fn blocked_closing(self, nand: &[u8], nor: &[u8], slots: u64) -> Result<(), Ground>
         requires { Sized nand.now nor.now slots self }
-        ensures { (s : Whole.State) (load : ℤ) → fields_of s ≡ self → result
+        ensures { (s : Whole.State) (load : ℤ) → fields_of s ≡ self → number_in result
             ≡ later_ground (world nand.now nor.now s) slots load no_room }
     {
         let slot = flash::slot_of(self.current, slots);
         if !segment::pages_erased(nand, slot, self.count, self.buckets) {
-            return 11;
+            return Err(Ground::NotErased);
         }
-        0
+        Ok(())
     }
 
     // All NOR bytes due for writing are 255.
@@ -67,50 +68,49 @@ impl Fields {
     }
 
     // Grounds 10 and 11 of an append into the open segment as it is.
-    fn blocked_put(self, nand: &[u8], nor: &[u8], slots: u64, code: u32, p: Plan) -> u8
+    fn blocked_put(
+        self,
+        nand: &[u8],
+        nor: &[u8],
+        slots: u64,
+        code: u32,
+        p: Plan,
+    ) -> Result<(), Ground>
         requires sized { Sized nand.now nor.now slots self × Fitting self.buckets p }
         requires p_value { (is_damaged (meaning p) ≡ false) × (is_no_room (meaning p) ≡ false) }
-        ensures { (s : Whole.State) (load : ℤ) → fields_of s ≡ self → code ≡ stored load → result
+        ensures { (s : Whole.State) (load : ℤ) → fields_of s ≡ self → code ≡ stored load → number_in result
             ≡ later_ground (world nand.now nor.now s) slots load (meaning p) }
     {
         if !self.is_clear(nor, code, p) {
-            return 10;
+            return Err(Ground::Damage);
         }
         let slot = flash::slot_of(self.current, slots);
         if !append_parts::page_free(nand, slot, self.count) {
-            return 11;
+            return Err(Ground::NotErased);
         }
-        0
+        Ok(())
     }
 
     // Grounds 10 and 11.
-    fn blocked(self, nand: &[u8], nor: &[u8], slots: u64, code: u32, p: Plan) -> u8
+    pub fn blocked(
+        self,
+        nand: &[u8],
+        nor: &[u8],
+        slots: u64,
+        code: u32,
+        p: Plan,
+    ) -> Result<(), Ground>
         requires { Sized nand.now nor.now slots self × Fitting self.buckets p }
-        ensures { (s : Whole.State) (load : ℤ) → fields_of s ≡ self → code ≡ stored load → result
+        ensures { (s : Whole.State) (load : ℤ) → fields_of s ≡ self → code ≡ stored load → number_in result
             ≡ later_ground (world nand.now nor.now s) slots load (meaning p) }
     {
         if append_parts::is_damaged_plan(p) {
-            return 10;
+            return Err(Ground::Damage);
         }
         if append_parts::is_full(p) {
             return self.blocked_closing(nand, nor, slots);
         }
         self.blocked_put(nand, nor, slots, code, p)
-    }
-
-    // Grounds 10 and 11 of a lift that no other ground refuses, and its plan.
-    pub fn planned(self, nand: &[u8], nor: &[u8], slots: u64, load: i32) -> Planned
-        requires sized { Sized nand.now nor.now slots self }
-        requires load_value { load_ok load ≡ true }
-        ensures suits { Suits self.buckets self.count result.plan }
-        ensures is { (s : Whole.State) → fields_of s ≡ self
-            → (meaning result.plan ≡ plan_of (world nand.now nor.now s) load)
-            × (result.number ≡ later_ground (world nand.now nor.now s) slots load (meaning result.plan)) }
-    {
-        let code = lift::stored(load);
-        let p = self.plan(nor, code);
-        let m = self.blocked(nand, nor, slots, code, p);
-        Planned { number: m, plan: p }
     }
 
     // The lift goes into the open segment as it is: no close and no drop comes first.
@@ -122,6 +122,7 @@ impl Fields {
         let drops = append_parts::drops_first(self.oldest, self.current, self.count, slots);
         !(full | drops)
     }
+
     // A drop comes first, behind a close if that is due.
     pub fn sheds(self, slots: u64, p: Plan) -> bool
         requires { (self.oldest ≤ self.current) × (self.current < 2 ^ 32 - 1) }

@@ -6,19 +6,21 @@ pub mod append;
 pub mod fields;
 
 ghost use Rattle.std.specs.Prelude.{◌≡◌, true, ◌+◌, ◌-◌, ◌*◌, ◌^◌, ◌≤◌, ◌<◌, length};
+ghost use Rattle.grounds.specs.Numbers.{number_in};
 ghost use Rattle.flash.specs.Chip.{slot_of, slot_erased, slot_width};
 ghost use Rattle.lift.specs.Limits.{load_ok};
 ghost use Rattle.form.specs.declared.Form.TheVariants.{New};
 ghost use Rattle.store.specs.Bounds.{heads_ok, within_bounds};
 ghost use Rattle.store.specs.World as World;
 ghost use Rattle.store.specs.World.{world, close_world};
-ghost use Rattle.store.specs.Calls.{returned, formatted};
+ghost use Rattle.store.specs.Calls.{returned, next_state, formatted};
 ghost use Rattle.store.specs.Calls.{format_outcome, close_outcome, drop_outcome};
 ghost use Rattle.store.specs.Inner.Pieces.{bounds_ground};
 
 use bloom::SECTION_BYTES;
 use flash::PAGE_BYTES;
 use form::Form;
+use grounds::Ground;
 use header::Closing;
 use lift::LOADS_KEPT;
 use skiplist::{LEVELS, Pointer};
@@ -56,14 +58,6 @@ pub struct OldState {
     pub state: State,
     // oldest live time: "the start of the oldest retained lift, or next time if there is none"
     pub live: u64,
-}
-
-// A call's number, and the next state: the state as it was where the number is not 0. A format takes no state; refused, it hands back the
-// formatted one all the same.
-#[derive(Clone, Copy)]
-pub struct Answer {
-    pub number: u8,
-    pub state: State,
 }
 
 fn heads_ok(heads: [Pointer; LEVELS], slots: u64) -> bool
@@ -116,17 +110,23 @@ impl State {
     }
 
     // Grounds 1 to 3, of a state of either form.
-    pub fn ground(self, form: Form, live: u64, nand: usize, nor: usize, slots: u64) -> u8
-        ensures { result ≡ bounds_ground form self live nand nor slots }
+    #[tactic(auto, unfolding(crate::specs::Inner::Pieces::bounds_ground, bounds::specs::Grounds::format_ground))]
+    pub fn ground(
+        self,
+        form: Form,
+        live: u64,
+        nand: usize,
+        nor: usize,
+        slots: u64,
+    ) -> Result<(), Ground>
+        ensures { number_in result ≡ bounds_ground form self live nand nor slots }
     {
-        let n = bounds::chips_ground(nand, nor, slots);
-        if n != 0 {
-            return n;
+        bounds::chips_ground(nand, nor, slots)?;
+        if self.within_bounds(form, live, slots) {
+            Ok(())
+        } else {
+            Err(Ground::State)
         }
-        if !self.within_bounds(form, live, slots) {
-            return 3;
-        }
-        0
     }
 
     // What a close needs.
@@ -202,78 +202,41 @@ impl State {
         self
     }
 
-    pub fn format(nand: &mut [u8], nor: &mut [u8], slots: u64) -> Answer
-        ensures { returned result.number nand.new nor.new result.state
+    // The state of an erased store.
+    pub fn format(nand: &mut [u8], nor: &mut [u8], slots: u64) -> Result<State, Ground>
+        ensures { returned (number_in result) nand.new nor.new (next_state formatted result)
             ≡ format_outcome New nand.old nor.old slots }
     {
-        let n = bounds::chips_ground(nand.len(), nor.len(), slots);
-        let s = State::new();
-        if n != 0 {
-            return Answer {
-                number: n,
-                state: s,
-            };
-        }
+        bounds::chips_ground(nand.len(), nor.len(), slots)?;
         flash::erase_chip(nand);
         flash::erase_chip(nor);
-        Answer {
-            number: 0,
-            state: s,
-        }
+        Ok(State::new())
     }
 
-    pub fn close(self, nand: &mut [u8], nor: &mut [u8], slots: u64) -> Answer
-        ensures { returned result.number nand.new nor.new result.state
+    pub fn close(self, nand: &mut [u8], nor: &mut [u8], slots: u64) -> Result<State, Ground>
+        ensures { returned (number_in result) nand.new nor.new (next_state self result)
             ≡ close_outcome (world nand.old nor.old self) slots }
     {
-        let n = self.ground(Form::New, 0, nand.len(), nor.len(), slots);
-        if n != 0 {
-            return Answer {
-                number: n,
-                state: self,
-            };
-        }
+        self.ground(Form::New, 0, nand.len(), nor.len(), slots)?;
         if self.count == 0 {
-            return Answer {
-                number: 9,
-                state: self,
-            };
+            return Err(Ground::NothingThere);
         }
         let slot = flash::slot_of(self.current, slots);
         if !segment::pages_erased(nand, slot, self.count, self.buckets) {
-            return Answer {
-                number: 11,
-                state: self,
-            };
+            return Err(Ground::NotErased);
         }
-        let s = self.closed(nand, nor, slots);
-        Answer {
-            number: 0,
-            state: s,
-        }
+        Ok(self.closed(nand, nor, slots))
     }
 
-    pub fn drop(self, nand: &mut [u8], nor: &[u8], slots: u64) -> Answer
-        ensures { returned result.number nand.new nor.now result.state
+    pub fn drop(self, nand: &mut [u8], nor: &[u8], slots: u64) -> Result<State, Ground>
+        ensures { returned (number_in result) nand.new nor.now (next_state self result)
             ≡ drop_outcome (world nand.old nor.now self) slots }
     {
-        let n = self.ground(Form::New, 0, nand.len(), nor.len(), slots);
-        if n != 0 {
-            return Answer {
-                number: n,
-                state: self,
-            };
-        }
+        self.ground(Form::New, 0, nand.len(), nor.len(), slots)?;
         if self.oldest == self.current {
-            return Answer {
-                number: 9,
-                state: self,
-            };
-        }
-        let s = self.dropped(nand, slots);
-        Answer {
-            number: 0,
-            state: s,
+            Err(Ground::NothingThere)
+        } else {
+            Ok(self.dropped(nand, slots))
         }
     }
 }

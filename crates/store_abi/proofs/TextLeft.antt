@@ -16,6 +16,10 @@ use Rattle.import.specs.Inner.Lines.{imported}
 use Rattle.kept.specs.Kept.{kept}
 use Rattle.areas.specs.Areas.{replied, left_after}
 
+-- a refusal keeps nothing
+pub kept_not : (n : ℕ) → (n ≡ 0 → ⊥) → (new old : List ℕ) → old ≡ kept n new old
+kept_not n h new old = rw (ne_eqb n 0 h)
+
 -- the length of the text
 pub export_left : (o : ExportAnswer) (n long : ℕ) (text answer answer' : List ℕ)
     → ◌≡◌ {A = ExportAnswer} (record { number = n; long = long; area = text }) o → answer' ≡ kept n (bytes 8 long) answer

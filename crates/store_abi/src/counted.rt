@@ -23,8 +23,8 @@ pub extern "C" fn store_format_kept(
     if counts.len() != COUNTS_BYTES {
         return AREA_LENGTH;
     }
-    let a = keeping::format(nand, nor, slots);
-    kept::keep_counted(state, counts, a)
+    let r = keeping::format(nand, nor, slots);
+    kept::keep_counted(state, counts, r)
 }
 
 #[unsafe(no_mangle)]
@@ -48,7 +48,8 @@ pub extern "C" fn store_append_kept(
     if counts.len() != COUNTS_BYTES {
         return AREA_LENGTH;
     }
-    area_append::counted::append(state, counts, nand, nor, slots, time, load, note)
+    let r = area_append::counted::append(state, counts, nand, nor, slots, time, load, note);
+    grounds::number_in(&r)
 }
 
 #[unsafe(no_mangle)]
@@ -70,6 +71,6 @@ pub extern "C" fn store_drop_kept(
     }
     let s = state_bytes::get_state(state);
     let c = counts::area::get_counts(counts);
-    let a = keeping::drop(s, c, nand, nor, slots);
-    kept::keep_counted(state, counts, a)
+    let r = keeping::drop(s, c, nand, nor, slots);
+    kept::keep_counted(state, counts, r)
 }

@@ -12,21 +12,21 @@ ghost use Rattle.form.specs.declared.Form.TheVariants.{New};
 ghost use Rattle.questions.specs.Queries.{tally_outcome};
 ghost use Rattle.state_bytes.specs.StateBytes.{state_in, area_length};
 ghost use Rattle.store.specs.World.{world};
-ghost use Rattle.tally.specs.Answers.{TallyAnswer};
+ghost use Rattle.tally.specs.Answers.{answer_of};
 ghost use Rattle.areas.specs.Areas.{left, replied};
 ghost use Rattle.areas.specs.Areas.{format_called, append_called, close_called, drop_called};
 ghost use Rattle.areas.specs.Areas.{forward_called, backward_called};
 ghost use Rattle.areas.specs.Areas.{search_called, tally_called, page_called, plate_called};
 
+use grounds::Ground;
 use kept::{NUMBER_BYTES, SEARCH_BYTES};
 use lift::NOTE_BYTES;
 use plate::PLATES;
 use service_page::PAGE_BYTES;
 use store::State;
-use tally::Tally;
 
-// One of the areas of state and answers has another length.
-const AREA_LENGTH: u8 = 20;
+// One of the areas of state and answers has another length. Each call tests its own areas: C takes a number, so `?` has nowhere to go.
+const AREA_LENGTH: u8 = Ground::AreaLength as u8;
 // A tally's counts.
 const COUNTS_BYTES: usize = 8 * PLATES;
 
@@ -38,8 +38,8 @@ pub extern "C" fn store_format(state: &mut [u8], nand: &mut [u8], nor: &mut [u8]
     if state.len() != state_bytes::STATE_BYTES {
         return AREA_LENGTH;
     }
-    let a = State::format(nand, nor, slots);
-    kept::keep_state(state, a)
+    let r = State::format(nand, nor, slots);
+    kept::keep_state(state, r)
 }
 
 #[unsafe(no_mangle)]
@@ -59,7 +59,7 @@ pub extern "C" fn store_append(
         return AREA_LENGTH;
     }
     let n = *note;
-    area_append::append(state, nand, nor, slots, time, load, n)
+    grounds::number_in(&area_append::append(state, nand, nor, slots, time, load, n))
 }
 
 #[unsafe(no_mangle)]
@@ -71,8 +71,8 @@ pub extern "C" fn store_close(state: &mut [u8], nand: &mut [u8], nor: &mut [u8],
         return AREA_LENGTH;
     }
     let s = state_bytes::get_state(state);
-    let a = s.close(nand, nor, slots);
-    kept::keep_state(state, a)
+    let r = s.close(nand, nor, slots);
+    kept::keep_state(state, r)
 }
 
 #[unsafe(no_mangle)]
@@ -84,8 +84,8 @@ pub extern "C" fn store_drop(state: &mut [u8], nand: &mut [u8], nor: &[u8], slot
         return AREA_LENGTH;
     }
     let s = state_bytes::get_state(state);
-    let a = s.drop(nand, nor, slots);
-    kept::keep_state(state, a)
+    let r = s.drop(nand, nor, slots);
+    kept::keep_state(state, r)
 }
 
 #[unsafe(no_mangle)]
@@ -111,25 +111,35 @@ pub extern "C" fn store_search(
     if answer.len() != SEARCH_BYTES {
         return AREA_LENGTH;
     }
-    let n = area_reads::ground(state, nand.len(), nor.len(), slots);
+    let judged = area_reads::ground(state, nand.len(), nor.len(), slots);
     let page = area_reads::page_of(state);
     let g = area_reads::log_at(state, slots);
-    let f = questions::pieces::search_from(n, page, g, nand, nor, t1, t2, k1, k2, rows);
-    let p = f.pages;
-    kept::keep_search(answer, f.number, f.count, p.headers, p.bloom, p.tree);
-    f.number
+    match questions::pieces::search_from(judged, page, g, nand, nor, t1, t2, k1, k2, rows) {
+        Err(ground) => ground.number(),
+        Ok(f) => {
+            let p = f.pages;
+            kept::keep_search(answer, 0, f.count, p.headers, p.bloom, p.tree);
+            0
+        }
+    }
 }
 
 // A tally of the store whose state is in this area.
-fn tallied(state: &[u8], nand: &[u8], nor: &[u8], slots: u64, t1: u64, t2: u64) -> Tally
+fn tallied(
+    state: &[u8],
+    nand: &[u8],
+    nor: &[u8],
+    slots: u64,
+    t1: u64,
+    t2: u64,
+) -> Result<[u64; PLATES], Ground>
     requires { length state.now ≡ area_length New }
-    ensures { ◌≡◌ {A = TallyAnswer} (record { number = result.number; counts = result.counts })
-        (tally_outcome (world nand.now nor.now (state_in state.now)) slots t1 t2) }
+    ensures { answer_of result ≡ tally_outcome (world nand.now nor.now (state_in state.now)) slots t1 t2 }
 {
-    let n = area_reads::ground(state, nand.len(), nor.len(), slots);
+    let judged = area_reads::ground(state, nand.len(), nor.len(), slots);
     let page = area_reads::page_of(state);
     let g = area_reads::log_at(state, slots);
-    questions::pieces::tally_from(n, page, g, nand, nor, t1, t2)
+    questions::pieces::tally_from(judged, page, g, nand, nor, t1, t2)
 }
 
 #[unsafe(no_mangle)]
@@ -151,10 +161,13 @@ pub extern "C" fn store_tally(
     if answer.len() != COUNTS_BYTES {
         return AREA_LENGTH;
     }
-    let t = tallied(state, nand, nor, slots, t1, t2);
-    let counts = t.counts;
-    kept::keep_counts(answer, t.number, counts);
-    t.number
+    match tallied(state, nand, nor, slots, t1, t2) {
+        Err(ground) => ground.number(),
+        Ok(counts) => {
+            kept::keep_counts(answer, 0, counts);
+            0
+        }
+    }
 }
 
 // The service page of a tally (W-201).
@@ -177,10 +190,13 @@ pub extern "C" fn store_page(
     if page.len() != PAGE_BYTES {
         return AREA_LENGTH;
     }
-    let t = tallied(state, nand, nor, slots, t1, t2);
-    let counts = t.counts;
-    kept::keep_page(page, t.number, t1, t2, counts);
-    t.number
+    match tallied(state, nand, nor, slots, t1, t2) {
+        Err(ground) => ground.number(),
+        Ok(counts) => {
+            kept::keep_page(page, 0, t1, t2, counts);
+            0
+        }
+    }
 }
 
 #[unsafe(no_mangle)]
@@ -190,9 +206,10 @@ pub extern "C" fn store_plate(place: u64, load: i32, answer: &mut [u8]) -> u8
     if answer.len() != NUMBER_BYTES {
         return AREA_LENGTH;
     }
-    let p = plate::plate_of(place, load);
-    kept::keep_number(answer, p.number, p.plate as u64);
-    p.number
+    let plate = plate::plate_of(place, load);
+    let number = grounds::number_in(&plate);
+    kept::keep_number(answer, number, plate.unwrap_or(0) as u64);
+    number
 }
 
 // A store of form 0 into a second lent store of form 1.
@@ -217,8 +234,8 @@ pub extern "C" fn store_forward(
         return AREA_LENGTH;
     }
     let s = state_bytes::get_old_state(old);
-    let a = conversion::forward(s, nand, nor, slots, to_nand, to_nor);
-    kept::keep_state(state, a)
+    let r = conversion::forward(s, nand, nor, slots, to_nand, to_nor);
+    kept::keep_state(state, r)
 }
 
 // And back.
@@ -243,7 +260,6 @@ pub extern "C" fn store_backward(
         return AREA_LENGTH;
     }
     let s = state_bytes::get_state(state);
-    let o = conversion::backward(s, nand, nor, slots, to_nand, to_nor);
-    let t = o.state;
-    kept::keep_old_state(old, o.number, t)
+    let r = conversion::backward(s, nand, nor, slots, to_nand, to_nor);
+    kept::keep_old_state(old, r)
 }

@@ -38,9 +38,13 @@ pub extern "C" fn store_pairs(
     let page2 = area_reads::page_of(second);
     let g1 = area_reads::log_at(first, slots1);
     let g2 = area_reads::log_at(second, slots2);
-    let p = pairs::pieces::pairs_from(n1, n2, page1, g1, nand1, nor1, page2, g2, nand2, nor2, rows);
-    kept::keep_number(answer, p.number, p.count);
-    p.number
+    match pairs::pieces::pairs_from(n1, n2, page1, g1, nand1, nor1, page2, g2, nand2, nor2, rows) {
+        Ok(count) => {
+            kept::keep_number(answer, 0, count);
+            0
+        }
+        Err(g) => g.number(),
+    }
 }
 
 // A search for loads that are known within d (W-209).
@@ -69,12 +73,16 @@ pub extern "C" fn store_tolerant(
     if answer.len() != TOLERANT_BYTES {
         return AREA_LENGTH;
     }
-    let n = area_reads::ground(state, nand.len(), nor.len(), slots);
+    let judged = area_reads::ground(state, nand.len(), nor.len(), slots);
     let page = area_reads::page_of(state);
     let g = area_reads::log_at(state, slots);
-    let f = tolerant::pieces::tolerant_from(
-        n, page, g, nand, nor, t1, t2, k1, k2, d, certain, possible,
-    );
-    kept::keep_both(answer, f.number, f.certain, f.possible);
-    f.number
+    match tolerant::pieces::tolerant_from(
+        judged, page, g, nand, nor, t1, t2, k1, k2, d, certain, possible,
+    ) {
+        Ok(both) => {
+            kept::keep_both(answer, 0, both.certain, both.possible);
+            0
+        }
+        Err(ground) => ground.number(),
+    }
 }

@@ -5,13 +5,13 @@
 mod asks;
 mod calls;
 mod script;
-
-ghost use Rattle.std.specs.Prelude.{◌≤◌, length};
+mod settings;
 
 use case_print::Trial;
 use plate::PLATES;
-use script::Order;
-use std::io::Read;
+use script::{Command, Item};
+use store::State;
+use trial_calls::Store;
 
 const NAND_BYTES: usize = 49152;
 
@@ -22,140 +22,73 @@ const SLOTS: u64 = 3;
 
 const SCRIPT_BYTES: usize = 16384;
 
-const NAND_BYTE: u8 = b'b';
-
-const NOR_BYTE: u8 = b'n';
-
-const TEXT: u8 = b'T';
-
-const STATE: u8 = b'S';
-
-const ROWS: u8 = b'R';
-
-const COUNTS: u8 = b'C';
-
-const NUMBER: u8 = b'N';
-
-const FOUND: u8 = b'F';
-
-const CHIPS: u8 = b'H';
-
-const END: u8 = b'E';
-
-fn put(s: &mut [u8], at: u64, v: u64) {
-    let i = at as usize;
-    if i < s.len() {
-        s[i] = (v % 256) as u8;
+fn say(rt: &impl Print, store: &Store, t: &Trial, item: Item) {
+    match item {
+        Item::Nothing => {}
+        Item::State => case_print::state(rt, store, t),
+        Item::Rows => case_print::rows(rt, t),
+        Item::Counts => case_print::counts(rt, t),
+        Item::Number => case_print::number(rt, t),
+        Item::Found => case_print::found(rt, t),
+        Item::Chips => case_print::chips(rt, store),
+        Item::LineEnd => case_print::end_line(rt),
     }
 }
 
-fn change_byte(nand: &mut [u8], nor: &mut [u8], o: Order) {
-    let letter = o.letter;
-    match letter {
-        NAND_BYTE => put(nand, o.a, o.b),
-        NOR_BYTE => put(nor, o.a, o.b),
-        _ => {}
-    }
-}
-
-fn say(rt: &impl Print, nand: &[u8], nor: &[u8], t: Trial, letter: u8) {
-    match letter {
-        STATE => case_print::state(rt, nand, nor, t),
-        ROWS => case_print::rows(rt, t),
-        COUNTS => case_print::counts(rt, t),
-        NUMBER => case_print::number(rt, t.number as u64),
-        FOUND => case_print::item(rt, b"/", t.found),
-        CHIPS => case_print::chips(rt, nand, nor),
-        END => case_print::end_line(rt),
-        _ => {}
-    }
-}
-
-fn say_text(rt: &impl Print, line: &[u8], letter: u8) {
-    if (letter < b'A') | (b'Z' < letter) {
-        return;
-    }
-    let at = script::text_start(line);
-    case_print::text(rt, &line[at..]);
-}
-
-fn with_call(nand: &mut [u8], nor: &mut [u8], t0: Trial, o: Order) -> Trial {
-    let mut t = t0;
-    let a = calls::changed(nand, nor, t0, o);
-    let s = a.state;
-    t.state = s;
-    t.number = a.number;
-    t
-}
-
-// A line has one of all these.
-fn obey(rt: &impl Print, nand: &mut [u8], nor: &mut [u8], t0: Trial, line: &[u8]) -> Trial {
-    let o = script::read(line);
-    let letter = o.letter;
-    say_text(rt, line, letter);
-    say(rt, nand, nor, t0, letter);
-    change_byte(nand, nor, o);
-    let t = with_call(nand, nor, t0, o);
-    asks::asked(nand, nor, t, o)
-}
-
-// The calls are lent the first bytes of each chip.
-fn obey_on(rt: &impl Print, nand: &mut [u8], nor: &mut [u8], t: Trial, line: &[u8]) -> Trial {
-    let n = t.nand;
-    let m = t.nor;
-    if n <= nand.len() {
-        if m <= nor.len() {
-            return obey(rt, &mut nand[..n], &mut nor[..m], t, line);
+fn obey(rt: &impl Print, store: &mut Store, t: &mut Trial, command: Command) {
+    match command {
+        Command::Change(change) => t.answer = calls::changed(store, t.slots, change, t.answer),
+        Command::Ask(ask) => asks::asked(store, t, ask),
+        Command::Set(setting) => settings::set(store, t, setting),
+        Command::Say { text, item } => {
+            case_print::text(rt, text);
+            say(rt, store, t, item);
         }
     }
-    t
 }
 
-fn obey_all(rt: &impl Print, nand: &mut [u8], nor: &mut [u8], t0: Trial, script: &[u8]) {
-    let mut t = t0;
-    let mut at: usize = 0;
-    while at < script.len() {
-        let end = script::line_end(script, at);
-        t = obey_on(rt, nand, nor, t, &script[at..end]);
-        at = end + 1;
+// The calls are lent the first bytes of each chip; a line does nothing where a chip has fewer.
+fn obey_line(
+    rt: &impl Print,
+    state: State,
+    nand: &mut [u8],
+    nor: &mut [u8],
+    t: &mut Trial,
+    line: &[u8],
+) -> State {
+    if nand.len() < t.nand || nor.len() < t.nor {
+        return state;
     }
-}
-
-fn begun(nand: &mut [u8], nor: &mut [u8]) -> Trial {
-    let a = trial_calls::format(nand, nor, SLOTS);
-    let state = a.state;
-    Trial {
+    let Some(command) = script::read(line) else {
+        return state;
+    };
+    let mut lent = Store {
         state,
-        slots: SLOTS,
-        nand: NAND_BYTES,
-        nor: NOR_BYTES,
-        number: a.number,
-        found: 0,
-        area: 0,
-        counts: [0u64; PLATES],
-    }
-}
-
-// Reads until `script` is full, the input ends or a read fails; how many bytes it has from its start.
-fn read_full(input: &mut impl Read, script: &mut [u8]) -> usize
-    ensures { result ≤ length script.new }
-{
-    let mut done: usize = 0;
-    while done < script.len() {
-        let n = input.read(&mut script[done..]).unwrap_or(0);
-        if n == 0 {
-            return done;
-        }
-        done += n;
-    }
-    done
+        nand: &mut nand[..t.nand],
+        nor: &mut nor[..t.nor],
+    };
+    obey(rt, &mut lent, t, command);
+    lent.state
 }
 
 fn main(rt: HostRuntime) {
     let mut nand = [0u8; NAND_BYTES];
     let mut nor = [0u8; NOR_BYTES];
     let mut script = [0u8; SCRIPT_BYTES];
-    let n = read_full(&mut rt.reader(), &mut script);
-    let t = begun(&mut nand, &mut nor);
-    obey_all(&rt, &mut nand, &mut nor, t, &script[..n]);
+    let script = fixed_input::read_full(&mut rt.reader(), &mut script);
+    let mut store = Store::new(&mut nand, &mut nor);
+    let answer = store.format(SLOTS);
+    let mut state = store.state;
+    let mut t = Trial {
+        slots: SLOTS,
+        nand: NAND_BYTES,
+        nor: NOR_BYTES,
+        answer,
+        found: 0,
+        area: 0,
+        counts: [0; PLATES],
+    };
+    for line in script.split(|byte| *byte == b'\n') {
+        state = obey_line(&rt, state, &mut nand, &mut nor, &mut t, line);
+    }
 }

@@ -1,131 +1,176 @@
 // A line of the script: a word, of which the first letter counts, then numbers, or a text that is to be printed.
-ghost use Rattle.std.specs.Prelude.{◌≤◌, length};
+use plain_list::Query;
 
-const BLANK: u8 = 32;
-
-const LINE_FEED: u8 = 10;
-
-const ZERO: u8 = 48;
-
-const NINE: u8 = 57;
-// No number of the script has more digits, and no line as many blanks.
+// No number of the script has more digits.
 const MOST: u64 = 1000000000000000000;
 
-// The letter, and the numbers in order; 0 for one that is not there.
-#[derive(Clone, Copy)]
-pub struct Order {
-    pub letter: u8,
-    pub a: u64,
-    pub b: u64,
-    pub c: u64,
-    pub d: u64,
-    pub e: u64,
+// The calls that change the store; loads are stored numbers.
+#[derive(Clone, Copy, Debug, PartialEq, Eq)]
+pub enum Change {
+    Format,
+    Append { lifts: u64, code: u64, rise: u64 },
+    Lift { time: u64, code: u64 },
+    Grow { lifts: u64 },
+    Close,
+    Drop,
 }
 
-// The blanks passed, and the number so far.
-#[derive(Clone, Copy)]
-struct Reading {
-    blanks: u64,
-    value: u64,
+// The calls that only ask.
+#[derive(Clone, Copy, Debug, PartialEq, Eq)]
+pub enum Ask {
+    Query { query: Query, bytes: usize },
+    Tally { t1: u64, t2: u64 },
+    Plate { place: u64, code: u64 },
 }
 
-fn with_digit(value: u64, b: u8) -> u64 {
-    if b < ZERO {
-        return value;
-    }
-    if NINE < b {
-        return value;
-    }
-    if MOST <= value {
-        return value;
-    }
-    let digit = b - ZERO;
-    value * 10 + (digit as u64)
+// A field of the state, which the script calls by its number, from 0 on.
+#[derive(Clone, Copy, Debug, PartialEq, Eq)]
+pub enum Field {
+    Oldest,
+    Current,
+    Count,
+    Buckets,
+    Next,
+    Start,
+    // The serial of the first head.
+    HeadSerial,
+    // All heads, which go.
+    Heads,
 }
 
-// A byte more of a line; the number after so many blanks is wanted.
-fn read_on(r: Reading, wanted: u64, b: u8) -> Reading {
-    let blanks = r.blanks;
-    let value = r.value;
-    if b == BLANK {
-        if MOST <= blanks {
-            return r;
+// What the script sets: S, the bytes lent of each chip, a byte of them, a field of the state.
+#[derive(Clone, Copy, Debug, PartialEq, Eq)]
+pub enum Setting {
+    Slots(u64),
+    Extent { nand: usize, nor: usize },
+    NandByte { at: usize, value: u8 },
+    NorByte { at: usize, value: u8 },
+    Field { field: Field, value: u64 },
+}
+
+// What is printed after a text.
+#[derive(Clone, Copy, Debug, PartialEq, Eq)]
+pub enum Item {
+    Nothing,
+    State,
+    Rows,
+    Counts,
+    Number,
+    Found,
+    Chips,
+    LineEnd,
+}
+
+#[derive(Clone, Copy, Debug, PartialEq, Eq)]
+pub enum Command<'a> {
+    Change(Change),
+    Ask(Ask),
+    Set(Setting),
+    Say { text: &'a [u8], item: Item },
+}
+
+fn field_of(number: u64) -> Option<Field> {
+    match number {
+        0 => Some(Field::Oldest),
+        1 => Some(Field::Current),
+        2 => Some(Field::Count),
+        3 => Some(Field::Buckets),
+        4 => Some(Field::Next),
+        5 => Some(Field::Start),
+        6 => Some(Field::HeadSerial),
+        7 => Some(Field::Heads),
+        _ => None,
+    }
+}
+
+impl From<u8> for Item {
+    fn from(letter: u8) -> Item {
+        match letter {
+            b'S' => Item::State,
+            b'R' => Item::Rows,
+            b'C' => Item::Counts,
+            b'N' => Item::Number,
+            b'F' => Item::Found,
+            b'H' => Item::Chips,
+            b'E' => Item::LineEnd,
+            _ => Item::Nothing,
         }
-        return Reading {
-            blanks: blanks + 1,
-            value,
-        };
     }
-    if blanks == wanted {
-        return Reading {
-            blanks,
-            value: with_digit(value, b),
-        };
-    }
-    r
 }
 
-fn number(line: &[u8], wanted: u64) -> u64 {
-    let mut r = Reading {
-        blanks: 0,
-        value: 0,
+fn with_digit(value: u64, byte: u8) -> u64 {
+    match byte {
+        b'0'..=b'9' if value < MOST => value * 10 + u64::from(byte - b'0'),
+        _ => value,
+    }
+}
+
+// The numbers after the word; 0 for one that is not there.
+fn numbers(line: &[u8]) -> [u64; 5] {
+    let mut numbers = [0u64; 5];
+    let words = line.split(|byte| *byte == b' ').skip(1);
+    for (n, word) in numbers.iter_mut().zip(words) {
+        *n = word.iter().fold(0, |value, byte| with_digit(value, *byte));
+    }
+    numbers
+}
+
+// A line's text begins after its first blank.
+fn text(line: &[u8]) -> &[u8] {
+    match line.iter().position(|byte| *byte == b' ') {
+        Some(blank) => &line[blank + 1..],
+        None => &[],
+    }
+}
+
+// None for a line that says nothing to do.
+pub fn read(line: &[u8]) -> Option<Command<'_>> {
+    let letter = *line.first()?;
+    let [a, b, c, d, e] = numbers(line);
+    let command = match letter {
+        b'f' => Command::Change(Change::Format),
+        b'a' => Command::Change(Change::Append {
+            lifts: a,
+            code: b,
+            rise: c,
+        }),
+        b'l' => Command::Change(Change::Lift { time: a, code: b }),
+        b'g' => Command::Change(Change::Grow { lifts: a }),
+        b'c' => Command::Change(Change::Close),
+        b'd' => Command::Change(Change::Drop),
+        b'q' => Command::Ask(Ask::Query {
+            query: Query {
+                t1: a,
+                t2: b,
+                k1: c,
+                k2: d,
+            },
+            bytes: e as usize,
+        }),
+        b't' => Command::Ask(Ask::Tally { t1: a, t2: b }),
+        b'p' => Command::Ask(Ask::Plate { place: a, code: b }),
+        b's' => Command::Set(Setting::Slots(a)),
+        b'e' => Command::Set(Setting::Extent {
+            nand: a as usize,
+            nor: b as usize,
+        }),
+        b'b' => Command::Set(Setting::NandByte {
+            at: a as usize,
+            value: (b % 256) as u8,
+        }),
+        b'n' => Command::Set(Setting::NorByte {
+            at: a as usize,
+            value: (b % 256) as u8,
+        }),
+        b'v' => Command::Set(Setting::Field {
+            field: field_of(a)?,
+            value: b,
+        }),
+        b'A'..=b'Z' => Command::Say {
+            text: text(line),
+            item: Item::from(letter),
+        },
+        _ => return None,
     };
-    let mut i: usize = 0;
-    while i < line.len() {
-        let b = line[i];
-        r = read_on(r, wanted, b);
-        i += 1;
-    }
-    r.value
-}
-
-fn letter(line: &[u8]) -> u8 {
-    if 0 < line.len() {
-        return line[0];
-    }
-    0
-}
-
-pub fn read(line: &[u8]) -> Order {
-    Order {
-        letter: letter(line),
-        a: number(line, 1),
-        b: number(line, 2),
-        c: number(line, 3),
-        d: number(line, 4),
-        e: number(line, 5),
-    }
-}
-
-// Where the byte next stands from `at` on, or the end.
-fn place_of(s: &[u8], at: usize, byte: u8) -> usize
-    requires { at ≤ length s.now }
-    ensures { (at ≤ result) × (result ≤ length s.now) }
-{
-    let mut i = at;
-    while i < s.len() {
-        if s[i] == byte {
-            return i;
-        }
-        i += 1;
-    }
-    i
-}
-
-pub fn line_end(script: &[u8], at: usize) -> usize
-    requires { at ≤ length script.now }
-    ensures { (at ≤ result) × (result ≤ length script.now) }
-{
-    place_of(script, at, LINE_FEED)
-}
-
-// Where a line's text begins: after the first blank.
-pub fn text_start(line: &[u8]) -> usize
-    ensures { result ≤ length line.now }
-{
-    let at = place_of(line, 0, BLANK);
-    if at < line.len() {
-        return at + 1;
-    }
-    at
+    Some(command)
 }

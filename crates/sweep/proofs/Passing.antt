@@ -21,8 +21,8 @@ use Rattle.tree.proofs.Looked.{entries_few, entries_some}
 use Rattle.sweep.specs.declared.Range.{Range}
 use Rattle.sweep.specs.declared.Records.{Records}
 use Rattle.sweep.specs.declared.Sweep.{Sweep}
-use Rattle.sweep.specs.Inner.Swept.{passing, timely}
-use Rattle.sweep.specs.Inner.Turns.{codes_of, times_of, with_record, with_entry, with_entries}
+use Rattle.sweep.specs.Inner.Swept.{none_swept, passing, timely}
+use Rattle.sweep.specs.Inner.Turns.{spoilt_empty, codes_of, times_of, with_record, with_entry, with_entries}
 
 empty : (es : List Entry) → length es ≡ 0 → es ≡ []
 empty [] h = refl
@@ -54,6 +54,13 @@ module _ (codes times : ℕ → ℕ) (r : Range) (e : Entry) (s : Sweep) (code :
       let c : codes p ≡ codes e.position = ap codes ep in
       let t : times p ≡ times e.position = ap times ep in
       eq ∙ rw (← is, f, er, et, c, t, ep)
+
+-- a bucket's end: a set, or damage
+pub found_all : (s all : Sweep) → s ≡ all → s.good ≡ true → ◌≡◌ {A = Sweep} (record { good = true; set = s.set }) (spoilt_empty all)
+found_all s all is e = rw (← is, e)
+
+pub damaged_all : (s all : Sweep) → s ≡ all → s.good ≡ false → none_swept ≡ spoilt_empty all
+damaged_all s all is e = rw (← is, e)
 
 -- where a record stands
 module _ (lifts tail : List ℕ) (g : Records) (p : ℕ) where

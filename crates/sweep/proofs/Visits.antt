@@ -10,7 +10,7 @@ use lib.Bits.{bit_or}
 use lib.Count.{ones}
 use lib.Dec.{leb, ltb, eqb}
 use lib.ListN.{length}
-use borrow.Author.Tests.{ltb-true, ltb-false, ne_eqb, eqb-true}
+use borrow.Author.Tests.{ltb-true, ne_eqb, eqb-true}
 use Rattle.codec.proofs.Truth.{and_parts}
 use Rattle.bitset.specs.Set.{elem, distinct}
 use Rattle.bitset.specs.Inner.Words.{empty_words, insert_in, insert_all}
@@ -22,7 +22,7 @@ use Rattle.tree.specs.Reading.{bucket_at, entries_from, node_in, child_at, kids_
 use Rattle.tree.specs.Search.{reached_with, reached, hits}
 use Rattle.tree.specs.Place.{bucket_page}
 use Rattle.tree.specs.Sweep.{records_good, and_then, node_at, visited_from, visited_on, gathered, sweep_on}
-use Rattle.tree.specs.Inner.Seen.{head_of, seen_node}
+use Rattle.tree.specs.Inner.Seen.{head_of, read_node}
 use Rattle.tree.proofs.Looked.{sound}
 use Rattle.tree.proofs.Visited.{visited_among}
 use Rattle.bitset.proofs.Distinct.{distinct_ones}
@@ -32,7 +32,7 @@ use Rattle.sweep.specs.declared.Records.{Records}
 use Rattle.sweep.specs.declared.Sweep.{Sweep}
 use Rattle.sweep.specs.declared.Turn.{Turn}
 use Rattle.sweep.specs.Inner.Swept.{none_swept, swept_from, passing, passing_of, timely_at, swept_of}
-use Rattle.sweep.specs.Inner.Turns.{is_due, HasBit, DueAbove, codes_of, times_of, with_entries, leads_to, left, onward, read_onward}
+use Rattle.sweep.specs.Inner.Turns.{is_due, HasBit, DueAbove, codes_of, times_of, with_entries, spoilt_empty, left, onward, read_onward}
 use Rattle.bitset.proofs.Digits.{bit_zero}
 use Rattle.sweep.proofs.Mask.{due_more, due_root}
 use Rattle.sweep.proofs.Skipping.{reached_same, skip, visit_first, same_from}
@@ -51,12 +51,12 @@ pub record Opened (bucket : List ℕ) (count : ℕ) (n : Node) : Type 0 where
   pub used : n.used ≡ length (entries_from bucket 13 0)
   pub kids : (n.mid ≡ no_mid → ⊥) → HasBit n.left × HasBit n.right
 
-module _ (bucket : List ℕ) (b buckets count : ℕ) (n : Node) (few : buckets ≤ 36) (is : n ≡ seen_node bucket b buckets count)
-    (good : n.good ≡ true) where
+module _ (bucket : List ℕ) (b buckets count : ℕ) (n : Node) (few : buckets ≤ 36) (is : n ≡ read_node bucket)
+    (good : node_good (node_in bucket) b buckets count ≡ true) where
   pub opened : Opened bucket count n
-  unfolding seen_node node_in kids_of
+  unfolding node_in kids_of
   opened =
-      let v = sound (node_in bucket) b buckets count (sym (ap (λ (k : Node). k.good) is) ∙ good) in
+      let v = sound (node_in bucket) b buckets count good in
       record {
         positions = v.positions;
         used = ap (λ (k : Node). k.used) is;
@@ -139,23 +139,21 @@ module _ (tree : List ℕ) (g : Records) (r : Range) where
 
 -- ---- a turn
 
-module _ (tree lifts tail : List ℕ) (g : Records) (r : Range) (b : ℕ) (t : Turn) (node : Node)
-    (is : node ≡ seen_node (bucket_at tree b) b g.buckets g.count) (l : b < g.buckets)
+module _ (tree lifts tail : List ℕ) (g : Records) (r : Range) (b : ℕ) (t : Turn) (l : b < g.buckets)
     (low : (j : ℕ) → j < b → is_due t.due j ≡ false) (due : is_due t.due b ≡ true) where
   abbrev codes : ℕ → ℕ
   codes = codes_of lifts tail g
 
-  good_is : node_good (node_in (bucket_at tree b)) b g.buckets g.count ≡ node.good
-  unfolding seen_node
-  good_is = sym (ap (λ (k : Node). k.good) is)
+  -- it has no damage
+  abbrev is_good : Bool
+  is_good = node_good (node_in (bucket_at tree b)) b g.buckets g.count
 
-  pub turn_spoilt : t.good ≡ true → node.good ≡ false → (u : Turn) → u.good ≡ false
-      → onward tree lifts tail g r u ≡ onward tree lifts tail g r t
+  pub turn_spoilt : is_good ≡ false → none_swept ≡ onward tree lifts tail g r t
   unfolding onward gathered
-  turn_spoilt is_good e u f = rw (f, is_good, left_first tree g r b t l low due, good_is, e)
+  turn_spoilt e = rw (left_first tree g r b t l low due, e)
 
   -- the buckets that are due behind it
-  module _ (lower more : ℕ) (others : (j : ℕ) → b < j → is_due lower j ≡ is_due t.due j)
+  module _ (node : Node) (is : node ≡ read_node (bucket_at tree b)) (lower more : ℕ) (others : (j : ℕ) → b < j → is_due lower j ≡ is_due t.due j)
       (reaches : (j : ℕ) → is_due more j
       ≡ reached r.k1 r.k2 (kids_of (head_of 0 0 node.mid node.left node.right)) (is_due lower) j)
       (above : DueAbove b more) where
@@ -163,25 +161,53 @@ module _ (tree lifts tail : List ℕ) (g : Records) (r : Range) (b : ℕ) (t : T
     kids = kids_of (node_in (bucket_at tree b))
 
     same : (j : ℕ) → b < j → is_due more j ≡ reached r.k1 r.k2 kids (is_due t.due) j
-    unfolding seen_node node_in kids_of
+    unfolding node_in kids_of
     same j h = (rw is at reaches) j ∙ reached_same r.k1 r.k2 kids (is_due lower) (is_due t.due) j (others j h)
 
     next_left : (u : Turn) → u.due ≡ more → left tree g r t ≡ b ∷ left tree g r u
     next_left u e = left_next tree g r b t l low due u (rw e above) (λ j h. rw e (same j h))
 
-    pub turn_opens : t.good ≡ true → node.good ≡ true → (found : Sweep)
-        → found ≡ with_entries codes (times_of lifts tail g) r (entries_from (bucket_at tree b) 13 0) (record { good = true; set = t.set })
-        → (read : ℕ)
-        → onward tree lifts tail g r (record { good = found.good; due = more; set = found.set; read = read }) ≡ onward tree lifts tail g r t
+    -- what a bucket's entries lead to
+    abbrev behind : Sweep → Sweep
+    behind s =
+        cond s.good (swept_from s.set.words (passing_of (timely_at lifts tail g r)
+        (gathered tree g.buckets g.count codes r.k1 r.k2 (visited_from tree r.k1 r.k2 g.buckets 0 (is_due more))))) none_swept
+
+    behind_empty : (s : Sweep) → behind (spoilt_empty s) ≡ behind s
+    behind_empty s = go s.good refl
+      where
+        go : (q : Bool) → s.good ≡ q → behind (spoilt_empty s) ≡ behind s
+        go true e = rw e
+        go false e = rw e
+
+    pub turn_opens : is_good ≡ true → (found : Sweep)
+        → found ≡ spoilt_empty (with_entries codes (times_of lifts tail g) r (entries_from (bucket_at tree b) 13 0)
+        (record { good = true; set = t.set }))
+        → behind found ≡ onward tree lifts tail g r t
     unfolding onward gathered node_in
-    turn_opens is_good e found finds read =
+    turn_opens e found finds =
         let es : List Entry = entries_from (bucket_at tree b) 13 0 in
-        let at : Sweep → Turn = λ s. record { good = s.good; due = more; set = s.set; read = read } in
-        ap (λ (s : Sweep). onward tree lifts tail g r (at s))
-        (finds ∙ entries_are codes (times_of lifts tail g) r es (record { good = true; set = t.set }))
-        ∙ rw (is_good, next_left (at found) refl, good_is, e)
+        let next : Turn = record { due = more; set = t.set; read = 0 } in
+        ap behind finds ∙ behind_empty _
+        ∙ ap behind (entries_are codes (times_of lifts tail g) r es (record { good = true; set = t.set }))
+        ∙ rw (next_left next refl, e)
         (opens (timely_at lifts tail g r) (records_good codes r.k1 r.k2 es) t.set.words (hits r.k1 r.k2 es)
-        (gathered tree g.buckets g.count codes r.k1 r.k2 (left tree g r (at found))))
+        (gathered tree g.buckets g.count codes r.k1 r.k2 (left tree g r next)))
+
+    next_is : (s : Bits) (n : ℕ) → onward tree lifts tail g r (record { due = more; set = s; read = n }) ≡ behind (record { good = true; set = s })
+    unfolding onward
+    next_is s n = refl
+
+    pub turn_damaged : is_good ≡ true → none_swept ≡ spoilt_empty (with_entries codes (times_of lifts tail g) r
+        (entries_from (bucket_at tree b) 13 0) (record { good = true; set = t.set }))
+        → none_swept ≡ onward tree lifts tail g r t
+    turn_damaged e finds = turn_opens e none_swept finds
+
+    pub turn_found : is_good ≡ true → (set : Bits) (read : ℕ) → ◌≡◌ {A = Sweep} (record { good = true; set = set })
+        (spoilt_empty (with_entries codes (times_of lifts tail g) r (entries_from (bucket_at tree b) 13 0)
+        (record { good = true; set = t.set })))
+        → onward tree lifts tail g r (record { due = more; set = set; read = read }) ≡ onward tree lifts tail g r t
+    turn_found e set read finds = next_is set read ∙ turn_opens e (record { good = true; set = set }) finds
 
     -- and the pages, bucket b's with those before
     pub turn_pages : (u : Turn) → u.due ≡ more → u.read ≡ bit_or t.read (2 ^ bucket_page b)
@@ -223,13 +249,13 @@ module _ (b buckets : ℕ) where
       child_after (ltb m k2) right (reached_with (leb k1 m) left s) j k.1 e (λ f.
       child_after (leb k1 m) left s j k.0 f h)
 
-  pub due_after : (bucket : List ℕ) (count : ℕ) (n : Node) → n ≡ seen_node bucket b buckets count → n.good ≡ true
+  pub due_after : (bucket : List ℕ) (count : ℕ) (n : Node) → n ≡ read_node bucket → node_good (node_in bucket) b buckets count ≡ true
       → (k1 k2 rest more : ℕ)
       → ((j : ℕ) → is_due more j ≡ reached k1 k2 (kids_of (head_of 0 0 n.mid n.left n.right)) (is_due rest) j)
       → ((j : ℕ) → is_due rest j ≡ true → After j) → (j : ℕ) → is_due more j ≡ true → After j
-  unfolding seen_node node_in kids_of
+  unfolding node_in kids_of
   due_after bucket count n is good k1 k2 rest more reaches h j e =
-      let v = sound (node_in bucket) b buckets count (sym (ap (λ (k : Node). k.good) is) ∙ good) in
+      let v = sound (node_in bucket) b buckets count good in
       kids_after (node_in bucket).x (node_in bucket).y k1 k2 (kids_of (node_in bucket)) (is_due rest) j v.kids
       (sym ((rw is at reaches) j) ∙ e) (h j)
 
@@ -244,7 +270,7 @@ module _ (tree lifts tail : List ℕ) (g : Records) (r : Range) where
   pages = map bucket_page (visited_on tree g.buckets r.k1 r.k2)
 
   abbrev begun : Bits → Turn
-  begun n = record { good = true; due = 1; set = n; read = 0 }
+  begun n = record { due = 1; set = n; read = 0 }
 
   pub turn_first : (n : Bits) → n.words ≡ empty_words → (onward tree lifts tail g r (begun n) ≡ swept_of tree lifts tail g r)
       × ((j : ℕ) → read_onward tree g r (begun n) j ≡ elem j (map bucket_page (visited_on tree g.buckets r.k1 r.k2)))
@@ -263,42 +289,18 @@ module _ (tree lifts tail : List ℕ) (g : Records) (r : Range) where
   unfolding visited_from
   none_left t z = left_from tree g r g.buckets 0 t (omega arith) (λ j h. rw (z, bit_zero j))
 
-  none_due : (t : Turn) → (t.good && ltb 0 t.due) ≡ false → t.good ≡ true → t.due ≡ 0
-  none_due t e f = let h : ltb 0 t.due ≡ false = rw f at e in omega (arith, ltb-false 0 t.due h)
+  pub turn_last : (t : Turn) → t.due ≡ 0 → ◌≡◌ {A = Sweep} (record { good = true; set = t.set }) (onward tree lifts tail g r t)
+  unfolding onward gathered insert_all
+  turn_last t e = rw (none_left t e)
 
-  -- or damage was met
-  pub turn_last : (t : Turn) → (t.good && ltb 0 t.due) ≡ false → leads_to (some []) t ≡ onward tree lifts tail g r t
-  unfolding onward gathered
-  turn_last t e = go t.good refl
-    where
-      go : (q : Bool) → t.good ≡ q → leads_to (some []) t ≡ onward tree lifts tail g r t
-      go false f = rw f
-      go true f = rw (none_left t (none_due t e f))
-
-  pub turn_read : (t : Turn) → (t.good && ltb 0 t.due) ≡ false → t.good ≡ true → t.read < 2 ^ 64 → g.buckets ≤ 36
+  pub turn_read : (t : Turn) → t.due ≡ 0 → t.read < 2 ^ 64 → g.buckets ≤ 36
       → ((j : ℕ) → read_onward tree g r t j ≡ elem j (map bucket_page (visited_on tree g.buckets r.k1 r.k2)))
       → ones t.read ≡ distinct (map bucket_page (visited_on tree g.buckets r.k1 r.k2))
   unfolding elem
-  turn_read t e f fits few all =
+  turn_read t e fits few all =
       distinct_ones t.read pages fits (visited_among tree r.k1 r.k2 g.buckets few 0 64 (omega arith) (omega arith))
-      (λ j. none_more (is_due t.read j) ∙ (rw (none_left t (none_due t e f)) at all) j)
+      (λ j. none_more (is_due t.read j) ∙ (rw (none_left t e) at all) j)
     where
       none_more : (x : Bool) → x ≡ (x || false)
       none_more true = refl
       none_more false = refl
-
--- where a sweep has ended without damage it met none
-pub ended_was : (t : Turn) (s : Sweep) → s ≡ leads_to (some []) t → s.good ≡ true → t.good ≡ true
-ended_was t s is e = go t.good refl
-  where
-    go : (q : Bool) → t.good ≡ q → t.good ≡ true
-    go true f = f
-    go false f = let z : false ≡ true = sym (ap (λ (x : Sweep). x.good) is ∙ rw f) ∙ e in let y : ◌≡◌ {A = ℕ} 0 1 = cc in absurd (omega arith)
-
-pub ended_good : (t : Turn) → t.good ≡ true → ◌≡◌ {A = Sweep} (record { good = true; set = t.set }) (leads_to (some []) t)
-unfolding insert_all
-ended_good t e = rw e
-
-pub ended_bad : (t : Turn) (n : Bits) → t.good ≡ false → n.words ≡ empty_words
-    → ◌≡◌ {A = Sweep} (record { good = false; set = n }) (leads_to (some []) t)
-ended_bad t n e w = rw e (ap (λ (ws : List ℕ). record { good = false; set = record { words = ws } }) w)

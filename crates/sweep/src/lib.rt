@@ -1,8 +1,7 @@
 // A search of one tree (document 01, "Search"): its buckets in rising order of their numbers, with a mask of those due.
 #![tactic(auto)]
 
-ghost use Rattle.std.specs.Prelude.{◌≡◌, true, [], map, ℕ, ◌+◌, ◌≤◌, ◌<◌, length};
-ghost use Rattle.std.proofs.Math.Option.{some};
+ghost use Rattle.std.specs.Prelude.{◌≡◌, true, map, ℕ, ◌+◌, ◌≤◌, ◌<◌, length, IfSome};
 ghost use Rattle.std.specs.Int.Count.{count_trailing_zeros, ones};
 ghost use Rattle.lift.specs.Record.{record_width, time_at, code_at};
 ghost use Rattle.tree.specs.Rules.{entries_most};
@@ -13,8 +12,8 @@ ghost use Rattle.tree.specs.Reading.{entry_in, entries_from, child_at, kids_of, 
 ghost use Rattle.tree.specs.Search.{within, reached_with, reached};
 ghost use Rattle.tree.specs.Sweep.{visited_on};
 ghost use Rattle.tree.specs.Inner.Seen.{head_of};
-ghost use Rattle.sweep.specs.Inner.Swept.{swept_of, Recorded, Held};
-ghost use Rattle.sweep.specs.Inner.Turns.{is_due, HasBit, DueBelow, DueAbove, codes_of, times_of, with_record, with_entry, with_entries, leads_to, onward};
+ghost use Rattle.sweep.specs.Inner.Swept.{as_sweep, found_of, swept_of, Recorded, Held};
+ghost use Rattle.sweep.specs.Inner.Turns.{spoilt_empty, is_due, HasBit, DueBelow, DueAbove, codes_of, times_of, with_record, with_entry, with_entries, onward, onward_of};
 ghost use Rattle.sweep.specs.Inner.Turns.{read_onward};
 
 use bitset::Bits;
@@ -37,7 +36,9 @@ pub struct Records {
     pub first: usize,
 }
 
-// Whether no damage was met, and the positions found; none where damage was met.
+// The positions found in a bucket so far, and whether no damage was met. A flag beside the set: the bucket's loop goes on to its end,
+// since leaving it earlier would cost each entry a branch, and its end makes an Option of the two. Public for the proofs of the crates
+// above, which speak of what a sweep comes to by this type; no function hands it out.
 #[derive(Clone, Copy)]
 pub struct Sweep {
     pub good: bool,
@@ -47,14 +48,13 @@ pub struct Sweep {
 // What a sweep found, and the mask of the pages that hold a bucket visited: bit p for page p.
 #[derive(Clone, Copy)]
 pub struct Swept {
-    pub found: Sweep,
+    pub set: Bits,
     pub read: u64,
 }
 
 // A sweep on its way: the mask of the buckets that are reached and not yet visited, the positions found and the pages read so far.
 #[derive(Clone, Copy)]
 struct Turn {
-    good: bool,
     due: u64,
     set: Bits,
     read: u64,
@@ -105,8 +105,10 @@ fn compared(area: &[u8], at: usize, p: usize, code: u32, r: Range, s: Sweep) -> 
     if !inside {
         return Sweep { good, set };
     }
-    let more = set.insert(p);
-    Sweep { good, set: more }
+    Sweep {
+        good,
+        set: set.insert(p),
+    }
 }
 
 // Entry i of a bucket's bytes.
@@ -135,7 +137,7 @@ fn entry_at(
     compared(tail, (p - g.first) * lift::RECORD_BYTES, p, code, r, s)
 }
 
-// The entries of a bucket, `used` in number. A split bucket has entries too.
+// The set with those of a bucket's entries, `used` in number; none where damage was met. A split bucket has entries too.
 fn entries(
     bucket: &[u8],
     lifts: &[u8],
@@ -144,106 +146,62 @@ fn entries(
     used: usize,
     r: Range,
     set: Bits,
-) -> Sweep
+) -> Option<Bits>
     requires in_bounds { (128 ≤ length bucket.now) × (used ≡ length (entries_from bucket.now 13 0)) }
     requires bucket_value { positions_good g.count (entries_from bucket.now 13 0) ≡ true }
     requires recorded { Recorded lifts.now tail.now g }
-    ensures { result ≡ with_entries (codes_of lifts.now tail.now g)
-        (times_of lifts.now tail.now g) r (entries_from bucket.now 13 0) (record { good = true; set = set }) }
+    ensures { as_sweep result ≡ spoilt_empty (with_entries (codes_of lifts.now tail.now g)
+        (times_of lifts.now tail.now g) r (entries_from bucket.now 13 0) (record { good = true; set = set })) }
 {
     let mut s = Sweep { good: true, set };
-    let mut i: usize = 0;
-    while i < used {
+    for i in 0..used {
         s = entry_at(bucket, lifts, tail, g, i, r, s);
-        i += 1;
     }
-    s
+    if s.good { Some(s.set) } else { None }
 }
 
-// The lowest bucket that is due, and no longer is then. The others and those that they lead to are left; what is found in all is the same.
-fn visit(tree: &[u8], lifts: &[u8], tail: &[u8], g: Records, r: Range, t: Turn) -> Turn
+// The lowest bucket that is due, and no longer is then; none where it has damage. The others and those that they lead to are left; what is
+// found in all is the same.
+fn visit(tree: &[u8], lifts: &[u8], tail: &[u8], g: Records, r: Range, t: Turn) -> Option<Turn>
     requires held { Held tree.now lifts.now tail.now g }
-    requires good_value { (t.good ≡ true) × (0 < t.due) × DueBelow g.buckets t.due }
-    ensures leads { onward tree.now lifts.now tail.now g r result
+    requires due { (0 < t.due) × DueBelow g.buckets t.due }
+    ensures leads { onward_of tree.now lifts.now tail.now g r result
         ≡ onward tree.now lifts.now tail.now g r t }
-    ensures left { DueBelow g.buckets result.due × DueAbove (count_trailing_zeros 64 t.due) result.due }
-    ensures pages { result.good ≡ true → (j : ℕ) → read_onward tree.now g r result j ≡ read_onward tree.now g r t j }
+    ensures left { IfSome result (λ n. DueBelow g.buckets n.due × DueAbove (count_trailing_zeros 64 t.due) n.due) }
+    ensures pages { IfSome result (λ n. (j : ℕ) → read_onward tree.now g r n j ≡ read_onward tree.now g r t j) }
 {
-    let due = t.due;
-    let set = t.set;
-    let b = bitset::lowest(due) as u8;
-    let rest = bitset::without_lowest(due);
+    let b = bitset::lowest(t.due) as u8;
+    let rest = bitset::without_lowest(t.due);
     let bucket = tree::bucket_of(tree, Bucket(b));
-    let n = tree::node_in(bucket, Bucket(b), g.buckets, g.count);
+    let n = tree::node_in(bucket, Bucket(b), g.buckets, g.count)?;
     let read = t.read | bitset::power(tree::page_of(Bucket(b)));
-    let good = n.good;
-    if !good {
-        return Turn {
-            good: false,
-            due: rest,
-            set,
-            read,
-        };
-    }
-    let more = with_kids(rest, n.mid, n.left, n.right, r);
-    let found = entries(bucket, lifts, tail, g, n.used, r, set);
-    let all = found.set;
-    Turn {
-        good: found.good,
-        due: more,
-        set: all,
-        read,
-    }
+    let due = with_kids(rest, n.mid, n.left, n.right, r);
+    let set = entries(bucket, lifts, tail, g, n.used, r, t.set)?;
+    Some(Turn { due, set, read })
 }
 
-// The set of a sweep that has come to its end; none where damage was met.
-fn ended(t: Turn) -> Sweep
-    ensures { result ≡ leads_to (some []) t }
-{
-    let good = t.good;
-    if good {
-        let set = t.set;
-        return Sweep { good: true, set };
-    }
-    let none = Bits::empty();
-    Sweep {
-        good: false,
-        set: none,
-    }
-}
-
-// The positions of the segment's lifts whose loads and times are in the range, by its tree; each load is compared with its record's.
-pub fn sweep_tree(tree: &[u8], lifts: &[u8], tail: &[u8], g: Records, r: Range) -> Swept
+// The positions of the segment's lifts whose loads and times are in the range, by its tree, each load compared with its record's; none where
+// damage is met.
+pub fn sweep_tree(tree: &[u8], lifts: &[u8], tail: &[u8], g: Records, r: Range) -> Option<Swept>
     requires { Held tree.now lifts.now tail.now g }
-    ensures found { result.found ≡ swept_of tree.now lifts.now tail.now g r }
-    ensures pages { result.found.good ≡ true
-        → ones result.read ≡ distinct (map bucket_page (visited_on tree.now g.buckets r.k1 r.k2)) }
+    ensures found { found_of result ≡ swept_of tree.now lifts.now tail.now g r }
+    ensures pages { IfSome result (λ m. ones m.read
+        ≡ distinct (map bucket_page (visited_on tree.now g.buckets r.k1 r.k2))) }
 {
     let none = Bits::empty();
     if g.buckets == 0 {
-        return Swept {
-            found: Sweep {
-                good: true,
-                set: none,
-            },
-            read: 0,
-        };
+        return Some(Swept { set: none, read: 0 });
     }
     let mut t = Turn {
-        good: true,
         due: 1,
         set: none,
         read: 0,
     };
-    loop {
-        let go = t.good & (0 < t.due);
-        if !go {
-            let found = ended(t);
-            return Swept {
-                found,
-                read: t.read,
-            };
-        }
-        t = visit(tree, lifts, tail, g, r, t);
+    while 0 < t.due {
+        t = visit(tree, lifts, tail, g, r, t)?;
     }
+    Some(Swept {
+        set: t.set,
+        read: t.read,
+    })
 }

@@ -1,31 +1,29 @@
 -- Counting by plate, lift by lift and segment by segment: the counts do not hang on the order, so the newest may come first.
 -- Assumes nothing.
 use mathlib.Core.Path.{◌≡◌, refl, sym, ap, ◌∙◌}
-use mathlib.Core.Bool.{Bool, true, false, cond, not}
+use mathlib.Core.Bool.{Bool, true, false, cond}
 use mathlib.Core.Option.{Option, none, some}
 use mathlib.Core.List.{List, [], ◌∷◌, ◌++◌, map}
 use Prim.Native.Nat.{ℕ, zero, suc, ◌+◌, ◌^◌, ◌≤◌, ◌<◌}
+use Rattle.std.specs.Prelude.{Ok, Err}
+use Rattle.grounds.specs.declared.Ground.{Ground}
 use native.Mathlib.Omega.{arith}
 use lib.Dec.{eqb, ltb}
 use lib.ListN.{length, get_or, set, replicate, length-set, length-map, get_or-eq_default}
 use lib.Seq.{ext_get_or, get_or-set_same, get_or-set_other}
 use borrow.Author.Tests.{eqb-true, eqb-false, ltb-true, ltb-false}
 use Rattle.bitset.specs.declared.Bits.{Bits}
-use Rattle.bitset.specs.declared.Next.{Next}
 use Rattle.bitset.specs.Inner.Words.{members, Below}
-use Rattle.bitset.specs.Inner.Emptying.{next_of}
 use Rattle.bitset.proofs.Set.{length_members}
 use Rattle.lift.specs.Limits.{load_of}
 use Rattle.lift.specs.Record.{code_at}
 use Rattle.plate.specs.Plate.{plate_of, count_at, counts_of, no_counts}
 use Rattle.plate.specs.Inner.Counted.{counted_in}
 use Rattle.plate.proofs.Counts.{count_append, count_small, length_counts, count_place}
-use Rattle.visit.proofs.Emptying.{emptied_more, emptied_all, emptied_below}
-use Rattle.tally.specs.declared.Plates.{Plates}
 use Rattle.tally.specs.Answers.{row_codes}
 use Rattle.found.specs.Found.{join_rows}
+use Rattle.found.specs.Inner.Turns.{rows_in}
 use Rattle.tally.specs.Inner.Turns.{counted_all, tally_of, NoneAbove}
-use Rattle.found.proofs.Matched.{FewIn}
 
 -- ---- counts, place by place
 
@@ -98,35 +96,32 @@ counted_few codes cs i = go (ltb i (length cs)) refl
 
 -- ---- the lifts of a set
 
-pub record SetTally (f : ℕ → ℕ) (count : ℕ) (all : List ℕ) (rest : Bits) (n : List ℕ) : Type 0 where
-  pub below : Below count (members rest.words)
-  pub room : (i : ℕ) → get_or n i 0 + length (members rest.words) ≤ 2 ^ 63 + 320
-  pub leads : counted_all n (map f (members rest.words)) ≡ all
+pub record SetTally (f : ℕ → ℕ) (count : ℕ) (all left n : List ℕ) : Type 0 where
+  pub below : Below count left
+  pub room : (i : ℕ) → get_or n i 0 + length left ≤ 2 ^ 63 + 320
+  pub leads : counted_all n (map f left) ≡ all
 
 module _ (f : ℕ → ℕ) (count : ℕ) where
   pub set_first : (set : Bits) (n : List ℕ) → Below count (members set.words) → NoneAbove (2 ^ 63) n
-      → SetTally f count (counted_all n (map f (members set.words))) set n
+      → SetTally f count (counted_all n (map f (members set.words))) (members set.words) n
   set_first set n b h = record { below = b; room = λ i. omega (arith, h i, length_members set.words); leads = refl }
 
-  module _ (all : List ℕ) (rest : Bits) (n : List ℕ) (t : SetTally f count all rest n) (x : Next) (is : x ≡ next_of rest) where
-    pub set_over : x.found ≡ false → n ≡ all
+  module _ (all left n : List ℕ) (t : SetTally f count all left n) where
+    pub set_over : left ≡ [] → n ≡ all
     unfolding counted_all
-    set_over e = rw (emptied_all rest x is e) at t.leads
+    set_over e = rw e at t.leads
 
-    module _ (e : x.found ≡ true) where
-      count_is : length (members rest.words) ≡ length (members x.rest.words) + 1
-      count_is = ap length (emptied_more rest x is e) ∙ omega arith
+    module _ (p : ℕ) (more : List ℕ) (e : left ≡ p ∷ more) where
+      pub set_below : p < count
+      set_below = (rw e at t.below).0
 
-      pub set_below : x.at < count
-      set_below = (emptied_below rest x is count e t.below).0
-
-      pub set_more : (code : ℕ) → code ≡ f x.at → (new : List ℕ) → new ≡ counted_in n code → SetTally f count all x.rest new
+      pub set_more : (code : ℕ) → code ≡ f p → (new : List ℕ) → new ≡ counted_in n code → SetTally f count all more new
       unfolding counted_all
       set_more code c new d =
           record {
-            below = (emptied_below rest x is count e t.below).1;
-            room = λ i. rw d (omega (arith, t.room i, count_is, counted_few (code ∷ []) n i));
-            leads = rw (d, c) (rw (emptied_more rest x is e) at t.leads);
+            below = (rw e at t.below).1;
+            room = λ i. rw d (omega (arith, t.room i, ap length e, counted_few (code ∷ []) n i));
+            leads = rw (d, c) (rw e at t.leads);
           }
 
 -- ---- the rows of a segment
@@ -135,20 +130,29 @@ codes_append : (a b : List (List ℕ)) → row_codes (a ++ b) ≡ row_codes a ++
 codes_append [] b = refl
 codes_append (r ∷ a) b = ap (λ (l : List ℕ). code_at r 0 ∷ l) (codes_append a b)
 
-abbrev plates : Bool → List ℕ → Plates
-plates good counts = record { good = good; counts = counts }
+-- the newer rows are counted already
+pub tally_join : (counts : List ℕ) (older : Option (List (List ℕ))) (newer : List (List ℕ))
+    → tally_of (counted_all counts (row_codes newer)) older ≡ tally_of counts (join_rows older (some newer))
+tally_join counts none newer = refl
+tally_join counts (some older) newer =
+    ap Ok (counted_swap (row_codes older) (row_codes newer) counts ∙ ap (counted_all counts) (sym (codes_append older newer)))
 
-pub tally_join : (counts : List ℕ) (older newer : Option (List (List ℕ))) (more : Plates) → more ≡ tally_of counts newer
-    → cond (not more.good) more (tally_of more.counts older) ≡ tally_of counts (join_rows older newer)
-tally_join counts none none more e = rw e
-tally_join counts (some older) none more e = rw e
-tally_join counts none (some newer) more e = rw e
-tally_join counts (some older) (some newer) more e =
-    rw e (ap (plates true) (counted_swap (row_codes older) (row_codes newer) counts ∙ ap (counted_all counts)
-    (sym (codes_append older newer))))
-
-pub tally_few : (counts : List ℕ) (newer : Option (List (List ℕ))) → FewIn newer → (most : ℕ) → NoneAbove most counts
-    → NoneAbove (most + 320) (tally_of counts newer).counts
-tally_few counts none f most h i = let z = none_zero i in omega arith
-tally_few counts (some rows) f most h i =
+pub tally_few : (counts : List ℕ) (rows : List (List ℕ)) → length rows ≤ 320 → (most : ℕ) → NoneAbove most counts
+    → NoneAbove (most + 320) (counted_all counts (row_codes rows))
+tally_few counts rows f most h i =
     omega (arith, counted_few (row_codes rows) counts i, h i, length-map rows (λ (r : List ℕ). code_at r 0))
+
+-- ---- what a tally of rows says of them
+
+-- no damage
+pub record TalliedIn (counts : List ℕ) (o : Option (List (List ℕ))) (more : List ℕ) : Type 0 where
+  pub rows : o ≡ some (rows_in o)
+  pub is : more ≡ counted_all counts (row_codes (rows_in o))
+
+pub tallied : (counts more : List ℕ) (o : Option (List (List ℕ))) → Ok more ≡ tally_of counts o → TalliedIn counts o more
+tallied counts more none e = absurd (cc)
+tallied counts more (some rows) e = record { rows = refl; is = cc }
+
+pub spoilt : (counts : List ℕ) (g : Ground) (o : Option (List (List ℕ))) → Err g ≡ tally_of counts o → o ≡ none
+spoilt counts g none e = refl
+spoilt counts g (some rows) e = absurd (cc)

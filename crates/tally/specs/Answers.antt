@@ -1,6 +1,8 @@
 -- The answer of a tally (document 01, "Plates", ground 10). Assumes nothing.
 use Rattle.std.proofs.Math.Option.{Option, none, some}
-use Rattle.std.specs.Prelude.{List, map, ℕ}
+use Rattle.std.specs.Prelude.{List, map, ℕ, Result, Ok, Err}
+use Rattle.grounds.specs.declared.Ground.{Ground}
+use Rattle.grounds.specs.Numbers.{number_of}
 use Rattle.lift.specs.Record.{code_at}
 use Rattle.plate.specs.Plate.{no_counts, counts_of}
 
@@ -12,6 +14,11 @@ row_codes rows = map (λ r. code_at r 0) rows
 pub record TallyAnswer : Type 0 where
   pub number : ℕ
   pub counts : List ℕ
+
+-- what a call hands back
+abbrev pub answer_of : Result (List ℕ) Ground → TallyAnswer
+answer_of (Ok counts) = record { number = 0; counts = counts }
+answer_of (Err g) = record { number = number_of g; counts = no_counts }
 
 -- it "refuses as that would, ground 12 aside"
 unfoldable pub tally_answer : Option (List (List ℕ)) → TallyAnswer

@@ -3,16 +3,16 @@
 #![tactic(auto)]
 
 ghost use Rattle.std.specs.Prelude.{◌≡◌, true, ◌≤◌};
+ghost use Rattle.grounds.specs.Numbers.{number_in};
 ghost use Rattle.lift.specs.Limits.{load_ok, stored};
 ghost use Rattle.tolerance.specs.Tolerance.{low_end, high_end};
 ghost use Rattle.tolerance.specs.Grounds.{tolerance_most, tolerance_ground};
 ghost use Rattle.tolerance.specs.Inner.Ends.{in_ends, narrowed_ends};
 
+use grounds::Ground;
+
 // "d from 0 to 1,000"
 const TOLERANCE_MOST: u64 = 1000;
-
-// Ground 17: d is above it.
-const TOO_TOLERANT: u8 = 17;
 
 // Stored loads from low to high.
 #[derive(Clone, Copy)]
@@ -22,18 +22,16 @@ pub struct Ends {
 }
 
 // The grounds of a plain search's window, and 17 before the ranges are compared.
-pub fn window_ground(t1: u64, t2: u64, k1: i32, k2: i32, d: u64) -> u8
-    ensures { result ≡ tolerance_ground t1 t2 k1 k2 d }
+#[tactic(auto, unfolding(crate::specs::Grounds::tolerance_ground))]
+pub fn window_ground(t1: u64, t2: u64, k1: i32, k2: i32, d: u64) -> Result<(), Ground>
+    ensures { number_in result ≡ tolerance_ground t1 t2 k1 k2 d }
 {
-    let n = bounds::query_ground(t1, t2, k1, k2);
-    if (n == 4) | (n == 5) {
-        return n;
-    }
+    bounds::limits_ground(t1, t2, k1, k2)?;
     let is_too_tolerant = TOLERANCE_MOST < d;
     if is_too_tolerant {
-        return TOO_TOLERANT;
+        return Err(Ground::Tolerance);
     }
-    n
+    bounds::ranges_ground(t1, t2, k1, k2)
 }
 
 // The ends widened by d; they stop at the load limits.
@@ -43,17 +41,10 @@ pub fn widened(k1: i32, k2: i32, d: u64) -> Ends
     ensures high { result.high ≡ stored (high_end k2 d) }
 {
     let by = d as u32;
-    let least = lift::stored(k1);
-    let mut low = 1u32;
-    if by < least {
-        low = least - by;
+    Ends {
+        low: lift::stored(k1).saturating_sub(by).max(1),
+        high: (lift::stored(k2) + by).min(lift::CODE_MAX),
     }
-    let mut high = lift::stored(k2) + by;
-    let is_past = lift::CODE_MAX < high;
-    if is_past {
-        high = lift::CODE_MAX;
-    }
-    Ends { low, high }
 }
 
 // The ends narrowed by d: a load from one to the other is certain.
@@ -62,13 +53,10 @@ pub fn narrowed(k1: i32, k2: i32, d: u64) -> Ends
     ensures { result ≡ narrowed_ends (stored k1) (stored k2) d }
 {
     let by = d as u32;
-    let low = lift::stored(k1) + by;
-    let most = lift::stored(k2);
-    let mut high = 0u32;
-    if by < most {
-        high = most - by;
+    Ends {
+        low: lift::stored(k1) + by,
+        high: lift::stored(k2).saturating_sub(by),
     }
-    Ends { low, high }
 }
 
 pub fn is_between(code: u32, e: Ends) -> bool

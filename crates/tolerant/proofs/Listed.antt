@@ -1,7 +1,7 @@
 -- Both lists in their areas: the rows of an area read back, grounds 10 and 12, then what is written. Assumes nothing.
-use mathlib.Core.Path.{◌≡◌, refl, sym, ap, ap₂, ◌∙◌}
+use mathlib.Core.Path.{◌≡◌, refl, ap, ap₂, ◌∙◌}
 use mathlib.Core.Bool.{Bool, true, false, ◌||◌}
-use mathlib.Core.Option.{Option, none, some}
+use mathlib.Core.Option.{Option, none}
 use mathlib.Core.List.{List, [], ◌∷◌}
 use Prim.Native.Nat.{ℕ, suc, ◌+◌, ◌*◌, ◌/◌, ◌≤◌, ◌<◌}
 use native.Mathlib.Nat.{mul-le-mul_right}
@@ -12,7 +12,6 @@ use borrow.Author.Tests.{ltb-false}
 use Rattle.codec.specs.Area.{part, splice}
 use Rattle.codec.proofs.Areas.{length_splice, part_inside}
 use Rattle.codec.proofs.Truth.{or_parts}
-use Rattle.found.proofs.Counts.{never}
 use Rattle.found.proofs.Wide.{AllIn, Wide}
 use Rattle.search.specs.Answers.{row_bytes}
 use Rattle.search.specs.Inner.Turns.{written_in, CountIs}
@@ -50,91 +49,66 @@ module _ (certain_area possible_area : List ℕ) (e : Ends) (o : Option (List (L
   abbrev answer : Option (List (List ℕ)) → TolerantAnswer
   answer x = tolerant_answer (rows_in_ends e) certain_area possible_area x
 
-  pub listed_damage : n.good ≡ false → refused_both 10 certain_area possible_area ≡ tolerant_answer (rows_in_ends e) certain_area possible_area o
-  unfolding tolerant_answer
-  listed_damage h = go o counts
-    where
-      go : (x : Option (List (List ℕ))) → CountsBoth e x n → refused_both 10 certain_area possible_area ≡ answer x
-      go none c = refl
-      go (some rows) c = never (sym c.good ∙ h)
+  pub listed_count : CountIs n.possible o
+  listed_count = rw counts.are counts.possible
 
-  module _ (good : n.good ≡ true) where
-    pub listed_count : CountIs n.possible o
-    listed_count = go o counts
-      where
-        go : (x : Option (List (List ℕ))) → CountsBoth e x n → CountIs n.possible x
-        go none c = never (sym good ∙ c)
-        go (some rows) c = c.possible
+  module _ (certain_rows_lem possible_rows : ℕ) (certain_is : certain_rows_lem ≡ length certain_area / 32)
+      (possible_is : possible_rows ≡ length possible_area / 32) where
+    abbrev is_small : Bool
+    is_small = ltb certain_rows_lem n.certain || ltb possible_rows n.possible
 
-    module _ (certain_rows_lem possible_rows : ℕ) (certain_is : certain_rows_lem ≡ length certain_area / 32)
-        (possible_is : possible_rows ≡ length possible_area / 32) where
-      abbrev is_small : Bool
-      is_small = ltb certain_rows_lem n.certain || ltb possible_rows n.possible
+    pub listed_small : is_small ≡ true → refused_both 12 certain_area possible_area ≡ answer o
+    unfolding tolerant_answer
+    listed_small h = rw (counts.are, ← certain_is, ← possible_is, ← counts.certain, ← counts.possible, h)
 
-      pub listed_small : (ltb certain_rows_lem n.certain || ltb possible_rows n.possible) ≡ true
-          → refused_both 12 certain_area possible_area ≡ tolerant_answer (rows_in_ends e) certain_area possible_area o
-      unfolding tolerant_answer
-      listed_small h = go o counts
-        where
-          go : (x : Option (List (List ℕ))) → CountsBoth e x n → refused_both 12 certain_area possible_area ≡ answer x
-          go none c = never (sym good ∙ c)
-          go (some rows) c = rw (← certain_is, ← possible_is, ← c.certain, ← c.possible, h)
+    module _ (fits : is_small ≡ false) where
+      pub certain_fits : n.certain * 32 ≤ length certain_area
+      certain_fits = let h = ltb-false certain_rows_lem n.certain (or_parts (ltb certain_rows_lem n.certain) (ltb possible_rows n.possible) fits).0 in omega arith
 
-      module _ (fits : (ltb certain_rows_lem n.certain || ltb possible_rows n.possible) ≡ false) where
-        pub certain_fits : n.certain * 32 ≤ length certain_area
-        certain_fits = let h = ltb-false certain_rows_lem n.certain (or_parts (ltb certain_rows_lem n.certain) (ltb possible_rows n.possible) fits).0 in omega arith
+      pub possible_fits : n.possible * 32 ≤ length possible_area
+      possible_fits = let h = ltb-false possible_rows n.possible (or_parts (ltb certain_rows_lem n.certain) (ltb possible_rows n.possible) fits).1 in omega arith
 
-        pub possible_fits : n.possible * 32 ≤ length possible_area
-        possible_fits = let h = ltb-false possible_rows n.possible (or_parts (ltb certain_rows_lem n.certain) (ltb possible_rows n.possible) fits).1 in omega arith
+      module _ (wide : AllIn (λ r. length r ≡ 32) o) (written : List ℕ) (written_is : written ≡ written_in possible_area o) where
+        wide_rows : Wide 32 counts.rows
+        wide_rows = rw counts.are at wide
 
-        module _ (wide : AllIn (λ r. length r ≡ 32) o) (written : List ℕ) (written_is : written ≡ written_in possible_area o) where
-          pub rows_inside : n.possible * 32 ≤ length written
-          rows_inside = go o counts wide written_is
-            where
-              go : (x : Option (List (List ℕ))) → CountsBoth e x n → AllIn (λ r. length r ≡ 32) x → written ≡ written_in possible_area x
-                  → n.possible * 32 ≤ length written
-              go none c w f = never (sym good ∙ c)
-              go (some rows) c w f =
-                  let l = length_rows 32 rows w in
-                  let m = c.possible in
-                  omega (arith, possible_fits, ap length f, length_splice possible_area 0 (row_bytes rows) (omega (arith, possible_fits)))
+        written_rows : written ≡ splice possible_area 0 (row_bytes counts.rows)
+        written_rows = rw counts.are at written_is
 
-          -- the rows that are picked from are those that were found
-          pub picked_room : length (rows_in_ends e (rows_in written 0 n.possible)) * 32 ≤ length certain_area
-          picked_room = go o counts wide written_is
-            where
-              go : (x : Option (List (List ℕ))) → CountsBoth e x n → AllIn (λ r. length r ≡ 32) x → written ≡ written_in possible_area x
-                  → length (rows_in_ends e (rows_in written 0 n.possible)) * 32 ≤ length certain_area
-              go none c w f = never (sym good ∙ c)
-              go (some rows) c w f =
-                  let m = c.possible in
-                  let b = rows_back possible_area rows w (omega (arith, possible_fits)) in
-                  rw (f, m, b) (omega (arith, certain_fits, c.certain))
+        back : rows_in written 0 n.possible ≡ counts.rows
+        back = rw (written_rows, counts.possible) (rows_back possible_area counts.rows wide_rows (omega (arith, possible_fits, counts.possible)))
 
-          pub listed_both_lem : (picked : List ℕ) → picked ≡ splice certain_area 0 (row_bytes (rows_in_ends e (rows_in written 0 n.possible)))
-              → ◌≡◌ {A = TolerantAnswer} (record {
-                number = 0;
-                certain = n.certain;
-                possible = n.possible;
-                certain_area = picked;
-                possible_area = written;
-              })
-              (tolerant_answer (rows_in_ends e) certain_area possible_area o)
-          unfolding tolerant_answer
-          listed_both_lem picked picked-is = go o counts wide written_is picked-is
-            where
-              go : (x : Option (List (List ℕ))) → CountsBoth e x n → AllIn (λ r. length r ≡ 32) x → written ≡ written_in possible_area x
-                  → picked ≡ splice certain_area 0 (row_bytes (rows_in_ends e (rows_in written 0 n.possible)))
-                  → ◌≡◌ {A = TolerantAnswer} (record {
-                    number = 0;
-                    certain = n.certain;
-                    possible = n.possible;
-                    certain_area = picked;
-                    possible_area = written;
-                  })
-                  (answer x)
-              go none c w f p = never (sym good ∙ c)
-              go (some rows) c w f p =
-                  let m = c.possible in
-                  let b = rows_back possible_area rows w (omega (arith, possible_fits)) in
-                  rw (← certain_is, ← possible_is, ← c.certain, ← c.possible, fits) (rw (p, f, m, b) (rw c.certain refl))
+        pub rows_inside : n.possible * 32 ≤ length written
+        rows_inside =
+            let l = length_rows 32 counts.rows wide_rows in
+            let m = counts.possible in
+            omega (
+              arith,
+              possible_fits,
+              ap length written_rows,
+              length_splice possible_area 0 (row_bytes counts.rows) (omega (arith, possible_fits)),
+            )
+
+        -- the rows that are picked from are those that were found
+        pub picked_room : length (rows_in_ends e (rows_in written 0 n.possible)) * 32 ≤ length certain_area
+        picked_room = rw back (omega (arith, certain_fits, counts.certain))
+
+        pub listed_both_lem : (picked : List ℕ) → picked ≡ splice certain_area 0 (row_bytes (rows_in_ends e (rows_in written 0 n.possible)))
+            → ◌≡◌ {A = TolerantAnswer} (record {
+              number = 0;
+              certain = n.certain;
+              possible = n.possible;
+              certain_area = picked;
+              possible_area = written;
+            })
+            (answer o)
+        unfolding tolerant_answer
+        listed_both_lem picked picked-is =
+            rw (counts.are, ← certain_is, ← possible_is, ← counts.certain, ← counts.possible, fits)
+            (rw (picked-is, back, written_rows) (rw (counts.certain, counts.possible) refl))
+
+-- damage
+pub listed_damage : (certain_area possible_area : List ℕ) (e : Ends) (o : Option (List (List ℕ))) → o ≡ none
+    → refused_both 10 certain_area possible_area ≡ tolerant_answer (rows_in_ends e) certain_area possible_area o
+unfolding tolerant_answer
+listed_damage certain_area possible_area e o d = rw d

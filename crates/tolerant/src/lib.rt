@@ -5,11 +5,12 @@ pub mod pieces;
 
 ghost use Rattle.std.specs.Prelude.{◌≡◌};
 ghost use Rattle.store.specs.World.{world};
-ghost use Rattle.tolerant.specs.Answers.{TolerantAnswer};
 ghost use Rattle.tolerant.specs.Call.{tolerant_outcome};
+ghost use Rattle.tolerant.specs.Inner.Counted.{answered};
 
 use form::Form;
-use pieces::Tolerated;
+use grounds::Ground;
+use pieces::Both;
 use store::State;
 
 pub fn tolerant(
@@ -24,19 +25,15 @@ pub fn tolerant(
     d: u64,
     certain: &mut [u8],
     possible: &mut [u8],
-) -> Tolerated
-    ensures { ◌≡◌ {A = TolerantAnswer} (record {
-      number = result.number;
-      certain = result.certain;
-      possible = result.possible;
-      certain_area = certain.new;
-      possible_area = possible.new;
-    })
-        (tolerant_outcome (world nand.now nor.now s) slots t1 t2 k1 k2 d certain.old
-        possible.old) }
+) -> Result<Both, Ground>
+    ensures { answered result certain.new possible.new
+        ≡ tolerant_outcome (world nand.now nor.now s) slots t1 t2 k1 k2 d certain.old
+        possible.old }
 {
-    let n = s.ground(Form::New, 0, nand.len(), nor.len(), slots);
+    let judged = s.ground(Form::New, 0, nand.len(), nor.len(), slots);
     let page = s.page;
     let g = questions::log_of(s, slots);
-    pieces::tolerant_from(n, &page, g, nand, nor, t1, t2, k1, k2, d, certain, possible)
+    pieces::tolerant_from(
+        judged, &page, g, nand, nor, t1, t2, k1, k2, d, certain, possible,
+    )
 }

@@ -1,20 +1,22 @@
 -- One bucket as the code reads it: the entries counted one by one, mid and children judged by the same tests in the same order.
 -- Assumes nothing.
 use Prim.Native.Nat.{ℕ, zero, suc, ◌+◌, ◌-◌, ◌*◌, ◌≤◌, ◌<◌}
-use mathlib.Core.Path.{◌≡◌, refl, sym, ap, ◌∙◌}
-use mathlib.Core.Bool.{Bool, true, false, ◌&&◌}
+use mathlib.Core.Path.{◌≡◌, refl, ap}
+use mathlib.Core.Bool.{Bool, true, false, cond, ◌&&◌, ◌||◌}
 use mathlib.Core.List.{List, [], ◌∷◌}
 use native.Mathlib.Numerals.{add-one}
 use native.Mathlib.Omega.{arith}
 use lib.Dec.{ltb, leb, eqb}
 use lib.ListN.{length}
-use borrow.Author.Tests.{eq-eqb, ne_eqb, lt-ltb, ltb-true, leb-true}
-use Rattle.codec.proofs.Truth.{and_assoc, and_parts, and_true}
+use borrow.Author.Tests.{eq-eqb, ne_eqb, lt-ltb, le-ltb, ltb-true, leb-true}
+use Rattle.codec.proofs.Truth.{and_parts}
 use Rattle.codec.specs.Number.{number_at}
+use Rattle.std.specs.Prelude.{Option, Some, None, option_map}
+use mathlib.Core.Option.{some, none}
 use Rattle.tree.specs.Bytes.{no_mid}
 use Rattle.tree.specs.Reading as Reading
 use Rattle.tree.specs.Reading.{entry_in, entries_from, child_at, child_good, kids_of, kids_good, positions_good, node_in, node_good}
-use Rattle.tree.specs.Inner.Seen.{head_of, seen_node}
+use Rattle.tree.specs.Inner.Seen.{head_of, counted_on, read_node, seen_node}
 use Rattle.tree.specs.declared.Node.{Node}
 
 -- ---- the entries
@@ -53,55 +55,50 @@ entries_some s n i h =
     entries_more s n i (omega (arith, entries_few s n i)) (λ e.
     let z : length (entries_from s n i) ≡ 0 = ap length (entries_end s n i e) in omega arith)
 
--- from the place `from` on, the entries up to i have been passed, `good` if all their positions are below the count
-pub record Passed (s : List ℕ) (count from : ℕ) (good : Bool) (i : ℕ) : Type 0 where
-  pub low : i ≤ 13
-  pub used : i + length (entries_from s (13 - i) i) ≡ from + length (entries_from s (13 - from) from)
-  pub all : (good && positions_good count (entries_from s (13 - i) i)) ≡ positions_good count (entries_from s (13 - from) from)
+-- the entries before place i have been passed: all their positions are below the count
+pub record Passed (s : List ℕ) (count i : ℕ) : Type 0 where
+  pub used : i + length (entries_from s (13 - i) i) ≡ length (entries_from s 13 0)
+  pub all : positions_good count (entries_from s (13 - i) i) ≡ positions_good count (entries_from s 13 0)
 
-module _ (s : List ℕ) (count from : ℕ) where
-  pub passed_none : from ≤ 13 → Passed s count from true from
-  passed_none l = record { low = l; used = refl; all = refl }
-
+module _ (s : List ℕ) (count i : ℕ) (h : Passed s count i) where
   -- there is none left
-  pub passed_end : (good : Bool) (i : ℕ) → Passed s count from good i → entries_from s (13 - i) i ≡ []
-      → (good ≡ positions_good count (entries_from s (13 - from) from)) × (i ≡ from + length (entries_from s (13 - from) from))
+  pub passed_end : entries_from s (13 - i) i ≡ [] → Some i ≡ counted_on count (entries_from s 13 0)
   unfolding positions_good
-  passed_end good i h e = (
-    sym (and_true good) ∙ rw e at h.all,
-    omega (arith, rw e at h.used),
-  )
+  passed_end e =
+      let u = rw e at h.used in
+      let n : length (entries_from s 13 0) ≡ i = omega arith in
+      rw (← h.all, e, n)
 
-  pub passed_more : (good : Bool) (i : ℕ) → Passed s count from good i → i < 13 → (number_at s (28 + 8 * i) 2 ≡ 65535 → ⊥)
-      → Passed s count from (good && ltb (number_at s (28 + 8 * i) 2) count) (i + 1)
-  unfolding positions_good
-  passed_more good i h l e =
-      let m = entries_more s (13 - i) i (omega arith) e in
-      let d : 13 - (i + 1) ≡ 13 - i - 1 = omega arith in
-      record {
-        low = omega arith;
-        used = rw d (omega (arith, rw m at h.used));
-        all =
-            rw d
-            (and_assoc good (ltb (number_at s (28 + 8 * i) 2) count) (positions_good count (entries_from s (13 - i - 1) (i + 1)))
-            ∙ rw m at h.all);
-      }
+  module _ (l : i < 13) where
+    -- a position below the count is no end
+    pub passed_more : count ≤ 65535 → number_at s (28 + 8 * i) 2 < count → Passed s count (i + 1)
+    unfolding positions_good
+    passed_more c p =
+        let m = entries_more s (13 - i) i (omega arith) (λ e. omega arith) in
+        let d : 13 - (i + 1) ≡ 13 - i - 1 = omega arith in
+        let t = lt-ltb (number_at s (28 + 8 * i) 2) count p in
+        record {
+          used = rw d (omega (arith, rw m at h.used));
+          all = rw d (rw (m, t) at h.all);
+        }
 
-  -- a position below the count is no end
-  pub passed_good : (i : ℕ) → count ≤ 65535 → Passed s count from true i → i < 13 → number_at s (28 + 8 * i) 2 < count
-      → Passed s count from true (i + 1)
-  passed_good i c h l p =
-      let q = passed_more true i h l (λ e. omega arith) in
-      let t : ltb (number_at s (28 + 8 * i) 2) count ≡ true = lt-ltb (number_at s (28 + 8 * i) 2) count p in
-      rw t at q
+    -- one that is neither
+    pub passed_damage : count ≤ number_at s (28 + 8 * i) 2 → (number_at s (28 + 8 * i) 2 ≡ 65535 → ⊥)
+        → None ≡ counted_on count (entries_from s 13 0)
+    unfolding positions_good
+    passed_damage p e =
+        let m = entries_more s (13 - i) i (omega arith) e in
+        let t = le-ltb (number_at s (28 + 8 * i) 2) count p in
+        rw (← h.all, m, t)
 
 -- ---- mid and children
 
-pub child_none : (b buckets c : ℕ) → c ≡ 255 → true ≡ child_good b buckets (child_at c)
-child_none b buckets c e = rw (eq-eqb c 255 e)
-
-pub child_some : (b buckets c : ℕ) → (c ≡ 255 → ⊥) → (ltb b c && ltb c buckets) ≡ child_good b buckets (child_at c)
-child_some b buckets c e = rw (ne_eqb c 255 e)
+pub child_is : (b buckets c : ℕ) → (eqb c 255 || (ltb b c && ltb c buckets)) ≡ child_good b buckets (child_at c)
+child_is b buckets c = go (eqb c 255)
+  where
+    go : (q : Bool) → (q || (ltb b c && ltb c buckets)) ≡ child_good b buckets (cond q none (some c))
+    go true = refl
+    go false = refl
 
 module _ (b buckets x y mid left right : ℕ) where
   pub kids_whole : mid ≡ no_mid → true ≡ kids_good b buckets x y (kids_of (head_of x y mid left right))
@@ -138,18 +135,39 @@ sound n b buckets count e =
       positions = p.1;
     }
 
-pub seen : (s : List ℕ) (b buckets count x y mid left right used : ℕ) (kids entries : Bool)
+count_or_none : (p g : Bool) (n : ℕ) (f : ℕ → Node) → cond p (option_map f (cond g (Some n) None)) None ≡ cond (p && g) (Some (f n)) None
+count_or_none false g n f = refl
+count_or_none true false n f = refl
+count_or_none true true n f = refl
+
+pub seen : (s : List ℕ) (b buckets count x y mid left right : ℕ) (kids : Bool)
     → x ≡ number_at s 0 4 → y ≡ number_at s 4 4 → mid ≡ number_at s 8 4 → left ≡ number_at s 12 1 → right ≡ number_at s 13 1
     → kids ≡ kids_good b buckets x y (kids_of (head_of x y mid left right))
-    → (entries ≡ positions_good count (entries_from s 13 0)) × (used ≡ length (entries_from s 13 0))
-    → ◌≡◌ {A = Node} (record {
-      good = ltb x y && leb y 150001 && kids && entries;
-      x = x;
-      y = y;
-      mid = mid;
-      left = left;
-      right = right;
-      used = used;
-    }) (seen_node s b buckets count)
+    → (q : Bool) → (ltb x y && leb y 150001 && kids) ≡ q
+    → (o : Option ℕ) → o ≡ counted_on count (entries_from s 13 0)
+    → cond q (option_map (λ used. record { x = x; y = y; mid = mid; left = left; right = right; used = used }) o) None
+    ≡ seen_node s b buckets count
 unfolding seen_node node_in node_good kids_of
-seen s b buckets count x y mid left right used kids entries ex ey em el er ek ee = rw (ek, ee.0, ee.1, ex, ey, em, el, er)
+seen s b buckets count x y mid left right kids ex ey em el er ek q eq o eo =
+    rw (← eq, eo, ek, ex, ey, em, el, er) (count_or_none _ _ _ _)
+
+-- what was read is the bucket, which has no damage
+pub seen_some : (s : List ℕ) (b buckets count : ℕ) (n : Node) → Some n ≡ seen_node s b buckets count
+    → (node_good (node_in s) b buckets count ≡ true) × (n ≡ read_node s)
+unfolding seen_node
+seen_some s b buckets count n e = go (node_good (node_in s) b buckets count) refl e
+  where
+    go : (q : Bool) → node_good (node_in s) b buckets count ≡ q → Some n ≡ cond q (Some (read_node s)) None
+        → (node_good (node_in s) b buckets count ≡ true) × (n ≡ read_node s)
+    go true g h = (g, cc)
+    go false g h = cc
+
+pub seen_none : (s : List ℕ) (b buckets count : ℕ) → None ≡ seen_node s b buckets count
+    → node_good (node_in s) b buckets count ≡ false
+unfolding seen_node
+seen_none s b buckets count e = go (node_good (node_in s) b buckets count) refl e
+  where
+    go : (q : Bool) → node_good (node_in s) b buckets count ≡ q → None ≡ cond q (Some (read_node s)) None
+        → node_good (node_in s) b buckets count ≡ false
+    go true g h = cc
+    go false g h = g

@@ -4,9 +4,9 @@
 
 ghost use Rattle.std.specs.Prelude.{◌≡◌, ◌-◌, ◌+◌, ◌*◌, ◌≤◌, ◌<◌, length};
 ghost use Rattle.tree.specs.Rules.{entries_most};
-ghost use Rattle.tree.specs.Reading.{bucket_at, entry_in, entries_from, child_at, kids_of, child_good, kids_good, positions_good};
+ghost use Rattle.tree.specs.Reading.{bucket_at, entry_in, entries_from, child_at, kids_of, child_good, kids_good};
 ghost use Rattle.tree.specs.Place.{bucket_page, place_of, tree_start, bucket_start};
-ghost use Rattle.tree.specs.Inner.Seen.{head_of, seen_node};
+ghost use Rattle.tree.specs.Inner.Seen.{head_of, counted_on, seen_node};
 
 use flash::Page;
 
@@ -54,27 +54,19 @@ pub struct Place {
     pub offset: usize,
 }
 
-// A bucket as it is read: whether it is without damage, its range (x, y], its mid and children, how many entries it has.
+// A bucket as it is read: its range (x, y], its mid and children, how many entries it has.
 #[derive(Clone, Copy)]
 pub struct Node {
-    // no damage
-    pub good: bool,
     // the range (x, y]
     pub x: u32,
     pub y: u32,
-    // the mid, all ones until it is split, and both children, 255 none
+    // the mid, all ones until it is split, and both children, 255 none, as the bytes have them: a bucket is read as numbers first and
+    // judged after
     pub mid: u32,
     pub left: u8,
     pub right: u8,
     // how many entries it has
     pub used: usize,
-}
-
-// A bucket's entries: whether every position is below the count, and how many there are.
-#[derive(Clone, Copy)]
-struct Entries {
-    good: bool,
-    used: usize,
 }
 
 // The one rule from a bucket's number to its page and offset.
@@ -92,9 +84,7 @@ pub fn place_of(b: Bucket) -> Place
 pub fn page_of(b: Bucket) -> usize
     ensures { result ≡ bucket_page b.0 }
 {
-    let p = place_of(b);
-    let page = p.page;
-    page.0
+    place_of(b).page.0
 }
 
 // Where a page starts in the tree's area, whose first page is 20.
@@ -110,8 +100,7 @@ pub fn start_of(b: Bucket) -> usize
     ensures { result ≡ bucket_start b.0 }
 {
     let p = place_of(b);
-    let page = p.page;
-    page_start(page) + p.offset
+    page_start(p.page) + p.offset
 }
 
 // The 128 bytes of a bucket.
@@ -139,53 +128,26 @@ pub fn entry_position(s: &[u8], i: usize) -> u16
     codec::get_u16(s, ENTRIES_AT + 4 + ENTRY_BYTES * i)
 }
 
-// Those of the places from `from` on, each told apart from the end.
-fn entries_on(s: &[u8], count: u16, from: usize) -> Entries
-    requires { (128 ≤ length s.now) × (from ≤ 13) }
-    ensures good { result.good ≡ positions_good count (entries_from s.now (13 - from) from) }
-    ensures used { result.used ≡ from + length (entries_from s.now (13 - from) from) }
-{
-    let mut good = true;
-    let mut i = from;
-    while i < ENTRIES_PER_BUCKET {
-        let p = entry_position(s, i);
-        if p == NO_POSITION {
-            return Entries { good, used: i };
-        }
-        good = good & (p < count);
-        i += 1;
-    }
-    Entries { good, used: i }
-}
-
-// The entries before the first with position 65,535. One test for each: that number is not below the count either.
-fn entries_in(s: &[u8], count: u16) -> Entries
+// How many entries stand before the first with position 65,535; none where a position is not below the count. One test for each: that
+// number is not below the count either.
+fn entries_in(s: &[u8], count: u16) -> Option<usize>
     requires { 128 ≤ length s.now }
-    ensures good { result.good ≡ positions_good count (entries_from s.now 13 0) }
-    ensures used { result.used ≡ length (entries_from s.now 13 0) }
+    ensures { result ≡ counted_on count (entries_from s.now 13 0) }
 {
-    let mut i: usize = 0;
-    while i < ENTRIES_PER_BUCKET {
+    for i in 0..ENTRIES_PER_BUCKET {
         let p = entry_position(s, i);
         if count <= p {
-            return entries_on(s, count, i);
+            return if p == NO_POSITION { Some(i) } else { None };
         }
-        i += 1;
     }
-    Entries {
-        good: true,
-        used: i,
-    }
+    Some(ENTRIES_PER_BUCKET)
 }
 
 // A child's number is above its parent's and below the bucket count, or 255 for none.
 fn child_ok(c: u8, b: Bucket, buckets: u8) -> bool
     ensures { result ≡ child_good b.0 buckets (child_at c) }
 {
-    if c == NO_CHILD {
-        return true;
-    }
-    (b.0 < c) & (c < buckets)
+    (c == NO_CHILD) | ((b.0 < c) & (c < buckets))
 }
 
 // The mid and the children, where the bucket is split.
@@ -193,15 +155,14 @@ fn kids_ok(x: u32, y: u32, mid: u32, left: u8, right: u8, b: Bucket, buckets: u8
     ensures { result ≡ kids_good b.0 buckets x y (kids_of (head_of x y mid left right)) }
 {
     if mid == NO_MID {
-        return true;
+        true
+    } else {
+        (x < mid) & (mid <= y) & (child_ok(left, b, buckets) & child_ok(right, b, buckets))
     }
-    let one = child_ok(left, b, buckets);
-    let two = child_ok(right, b, buckets);
-    (x < mid) & (mid <= y) & (one & two)
 }
 
-// Bucket b, of these bytes, is checked whole.
-pub fn node_in(s: &[u8], b: Bucket, buckets: u8, count: u16) -> Node
+// Bucket b, of these bytes, is checked whole; none where it is damaged.
+pub fn node_in(s: &[u8], b: Bucket, buckets: u8, count: u16) -> Option<Node>
     requires { 128 ≤ length s.now }
     ensures { result ≡ seen_node s.now b.0 buckets count }
 {
@@ -210,16 +171,17 @@ pub fn node_in(s: &[u8], b: Bucket, buckets: u8, count: u16) -> Node
     let mid = codec::get_u32(s, MID_AT);
     let left = codec::get_u8(s, LEFT_AT);
     let right = codec::get_u8(s, RIGHT_AT);
-    let kids = kids_ok(x, y, mid, left, right, b, buckets);
-    let entries = entries_in(s, count);
-    let good = (x < y) & (y <= TOP) & kids & entries.good;
-    Node {
-        good: good,
-        x: x,
-        y: y,
-        mid: mid,
-        left: left,
-        right: right,
-        used: entries.used,
+    let is_whole = (x < y) & (y <= TOP) & kids_ok(x, y, mid, left, right, b, buckets);
+    if !is_whole {
+        return None;
     }
+    let used = entries_in(s, count)?;
+    Some(Node {
+        x,
+        y,
+        mid,
+        left,
+        right,
+        used,
+    })
 }

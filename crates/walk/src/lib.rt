@@ -19,7 +19,8 @@ use form::Form;
 use skiplist::{LEVELS, Pointer};
 use visit::{Closed, Log, Query};
 
-// The next segment to go to, the serial before it, and whether the last one has been done.
+// The next segment to go to, the serial before it, and whether the last one has been done. Its flags stand as they are, since the theorems
+// on a search from segment to segment (`advance_of`, `start_of`) speak of them, of a cursor that has met damage too.
 #[derive(Clone, Copy)]
 pub struct Cursor {
     // no damage on the way so far
@@ -47,15 +48,32 @@ pub enum Step {
 }
 
 // A closed segment as its header shows it: damage, passed over, or to be searched with so many lifts and buckets; then, of the cursor
-// behind it, whether it is the last, its pointer's slot, serial and time, and its own serial; then its Bloom pages that hold a bit tried.
+// behind it, whether it is the last, where its pointer goes, and its own serial; then its Bloom pages that hold a bit tried. Numbers and
+// no cursor within: a search hands one on for each segment, and a struct inside would be copied at each.
 #[derive(Clone, Copy)]
 pub enum Seen {
     Spoilt,
-    Passed(bool, u16, u32, u64, u32, u8),
-    Searched(u16, u8, bool, u16, u32, u64, u32, u8),
+    Passed {
+        last: bool,
+        to: u16,
+        serial: u32,
+        time: u64,
+        before: u32,
+        bloom: u8,
+    },
+    Searched {
+        count: u16,
+        buckets: u8,
+        last: bool,
+        to: u16,
+        serial: u32,
+        time: u64,
+        before: u32,
+        bloom: u8,
+    },
 }
 
-// Whether a closed segment is passed over, and how many of its Bloom pages hold a bit that was tried for it.
+// Whether a closed segment is passed over, and how many of its Bloom pages hold a bit that was tried for it, which may be some either way.
 #[derive(Clone, Copy)]
 struct Passing {
     passed: bool,
@@ -66,7 +84,7 @@ struct Passing {
 // read from the header's bytes when they are needed.
 #[derive(Clone, Copy)]
 struct Place {
-    // no damage so far
+    // no damage so far; where there was, `start_of` still promises the cursor and the moves
     good: bool,
     slot: usize,
     // the serial of the header loaded last, or the open serial
@@ -101,12 +119,10 @@ fn loaded(nand: &[u8], slots: u64, slot: usize, before: u32, moves: u64) -> Plac
     ensures { result ≡ loaded_at nand.now slots slot before moves }
 {
     let page = flash::pages_of(nand, slot, Page(flash::HEADER_LAST), 1);
-    let good = header::header_good(page, Form::New, slots, before);
-    let serial = header::serial_in(page);
     Place {
-        good,
+        good: header::header_good(page, Form::New, slots, before),
         slot,
-        before: serial,
+        before: header::serial_in(page),
         moves,
     }
 }
@@ -167,26 +183,22 @@ pub fn start_of(nand: &[u8], g: Log, q: Query) -> Start
 {
     let done = !(g.count == 0) & (g.start < q.t1);
     if done {
-        let none = Pointer::NONE;
         return Start {
             at: Cursor {
                 good: true,
                 last: true,
-                next: none,
+                next: Pointer::NONE,
                 before: g.current,
             },
             moves: 0,
         };
     }
     let w = seek(nand, g, q.t2);
-    let good = w.good;
-    let heads = g.heads;
-    let first = pointer_from(nand, heads, w, 0);
     Start {
         at: Cursor {
-            good,
-            last: !good,
-            next: first,
+            good: w.good,
+            last: !w.good,
+            next: pointer_from(nand, g.heads, w, 0),
             before: w.before,
         },
         moves: w.moves,
@@ -217,9 +229,8 @@ fn pass_over(nand: &[u8], slot: usize, h: &[u8], q: Query) -> Passing
     let pages = flash::pages_of(nand, slot, Page(flash::BLOOM_FIRST), 2);
     let count = header::count_in(h);
     let t = bloom::try_bits(pages, count, q.k1);
-    let held = t.held;
     Passing {
-        passed: !held,
+        passed: !t.held,
         bloom: t.pages,
     }
 }
@@ -240,22 +251,26 @@ pub fn look(nand: &[u8], slots: u64, q: Query, slot: u16, before: u32) -> Seen
     let last = header::start_in(h) < q.t1;
     let serial = header::serial_in(h);
     let p = pass_over(nand, at, h, q);
-    let bloom = p.bloom;
     if p.passed {
-        return Seen::Passed(last, first.slot, first.serial, first.time, serial, bloom);
+        return Seen::Passed {
+            last,
+            to: first.slot,
+            serial: first.serial,
+            time: first.time,
+            before: serial,
+            bloom: p.bloom,
+        };
     }
-    let count = header::count_in(h);
-    let buckets = header::buckets_in(h);
-    Seen::Searched(
-        count,
-        buckets,
+    Seen::Searched {
+        count: header::count_in(h),
+        buckets: header::buckets_in(h),
         last,
-        first.slot,
-        first.serial,
-        first.time,
-        serial,
-        bloom,
-    )
+        to: first.slot,
+        serial: first.serial,
+        time: first.time,
+        before: serial,
+        bloom: p.bloom,
+    }
 }
 
 // The Bloom pages that hold a bit tried in a segment that was seen.
@@ -264,8 +279,8 @@ pub fn bloom_of(seen: Seen) -> u8
 {
     match seen {
         Seen::Spoilt => 0,
-        Seen::Passed(_, _, _, _, _, bloom) => bloom,
-        Seen::Searched(_, _, _, _, _, _, _, bloom) => bloom,
+        Seen::Passed { bloom, .. } => bloom,
+        Seen::Searched { bloom, .. } => bloom,
     }
 }
 
@@ -273,18 +288,16 @@ pub fn bloom_of(seen: Seen) -> u8
 pub fn at_end(c: Cursor, oldest: u32) -> bool
     ensures { result ≡ (c.last || not (is_live c.next (serials_from oldest))) }
 {
-    let p = c.next;
-    c.last | !p.is_live(oldest)
+    c.last | !c.next.is_live(oldest)
 }
 
 fn cursor_at(last: bool, slot: u16, serial: u32, time: u64, before: u32) -> Cursor
     ensures { result ≡ cursor_of last slot serial time before }
 {
-    let next = Pointer::new(slot, serial, time);
     Cursor {
         good: true,
         last,
-        next,
+        next: Pointer::new(slot, serial, time),
         before,
     }
 }
@@ -295,18 +308,30 @@ pub fn step_of(slot: u16, seen: Seen) -> Step
 {
     match seen {
         Seen::Spoilt => Step::Damage,
-        Seen::Passed(last, to, serial, time, before, _) => {
-            let d = cursor_at(last, to, serial, time, before);
-            Step::Pass(d)
-        }
-        Seen::Searched(count, buckets, last, to, serial, time, before, _) => {
-            let d = cursor_at(last, to, serial, time, before);
+        Seen::Passed {
+            last,
+            to,
+            serial,
+            time,
+            before,
+            ..
+        } => Step::Pass(cursor_at(last, to, serial, time, before)),
+        Seen::Searched {
+            count,
+            buckets,
+            last,
+            to,
+            serial,
+            time,
+            before,
+            ..
+        } => {
             let s = Closed {
                 slot: slot as usize,
                 count,
                 buckets,
             };
-            Step::Visit(s, d)
+            Step::Visit(s, cursor_at(last, to, serial, time, before))
         }
     }
 }

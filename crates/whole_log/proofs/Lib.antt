@@ -1,4 +1,3 @@
-pub mod SideBySide
 pub mod Segments
 pub mod Turns
 pub mod Whole

@@ -10,6 +10,7 @@ use lib.ListN.{length, get_or}
 use borrow.Author.Tests.{eqb-true, eqb-false, eq-eqb, ne_eqb, lt-ltb, le-ltb}
 use Rattle.codec.specs.Number.{number_at}
 use Rattle.flash.specs.Chip.{page_of, slot_of}
+use Rattle.bitset.specs.declared.Bits.{Bits}
 use Rattle.bitset.specs.Inner.Words.{empty_words, insert_all, members, Below}
 use Rattle.bitset.proofs.Set.{length_insert_all, members_empty}
 use Rattle.lift.specs.Rows.{record_in, in_full_pages}
@@ -40,7 +41,7 @@ swept_words none = refl
 swept_words (some ps) = length_insert_all empty_words ps
 
 -- a segment's rows, where its slot, its first place behind the pages and its set are known
-pub segment_rows : (nand page : List ℕ) (g : Log) (way sets : List ℕ) (i slot first : ℕ) (ws : List ℕ) → get_or way i 0 ≡ slot
+pub segment_rows : (nand page : List ℕ) (g : Log) (way : List ℕ) (sets : List Bits) (i slot first : ℕ) (ws : List ℕ) → get_or way i 0 ≡ slot
     → (records_at g i).first ≡ first → set_in sets i ≡ ws
     → map (row_at nand page g way i) (places_in sets i) ≡ map (record_in (lifts_at nand slot) page first) (members ws)
 segment_rows nand page g way sets i slot first ws slot_is first_is set_is =
@@ -71,7 +72,7 @@ visit_read_lem nand slots live q c d s e = rw e at (header_read nand slots live 
 -- ---- a closed segment as segment i
 
 module _ (nand : List ℕ) (g : Log) (q : Query) (s : Closed) (sound : ClosedSound nand s) (i : ℕ) (inside : i < g.slots)
-    (way sets : List ℕ) (way_is : get_or way i 0 ≡ s.slot) (set_is : set_in sets i ≡ (closed_sweep nand s q).set.words)
+    (way : List ℕ) (sets : List Bits) (way_is : get_or way i 0 ≡ s.slot) (set_is : set_in sets i ≡ (closed_sweep nand s q).set.words)
     (page : List ℕ) (any : 32 ≤ length page) where
   abbrev places : List ℕ
   places = members (closed_sweep nand s q).set.words
@@ -142,7 +143,7 @@ module _ (nand nor page : List ℕ) (g : Log) (q : Query) where
             rows = rw e (λ h. open_good nand nor page g q z m refl h ∙ ap some (sym (open_rows_are nand nor page g q z m refl)));
           }
 
-  module _ (sound : LogSound nand nor g) (size : length page ≡ 512) (way sets : List ℕ)
+  module _ (sound : LogSound nand nor g) (size : length page ≡ 512) (way : List ℕ) (sets : List Bits)
       (way_is : get_or way g.slots 0 ≡ slot_of g.current g.slots)
       (set_is : set_in sets g.slots ≡ (open_sweep nand nor page g q).set.words) where
     abbrev top : ℕ

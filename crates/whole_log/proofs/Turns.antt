@@ -1,43 +1,34 @@
 -- Gathering from segment to segment: each turn puts one segment below those in hand, and all rows stay the same. Assumes nothing.
 use mathlib.Core.Path.{◌≡◌, refl, sym, ap, ◌∙◌}
-use mathlib.Core.Bool.{Bool, true, false, not}
 use mathlib.Core.Option.{Option, none, some}
 use mathlib.Core.List.{List, [], ◌++◌, map, append_assoc}
 use Prim.Native.Nat.{ℕ, zero, suc, ◌+◌, ◌-◌, ◌*◌, ◌≤◌, ◌<◌}
 use native.Mathlib.Decide.{dec_lt}
 use native.Mathlib.Omega.{arith}
-use lib.ListN.{length, get_or, set}
+use lib.ListN.{length, get_or, length-set}
 use lib.Seq.{get_or-set_same, get_or-set_other}
-use borrow.Author.Tests.{not-true, not-false}
-use Rattle.codec.specs.Area.{splice}
+use Rattle.bitset.specs.declared.Bits.{Bits}
+use Rattle.sweep.specs.declared.Sweep.{Sweep}
 use Rattle.skiplist.specs.Skip.{Live, serials_from}
 use Rattle.visit.specs.declared.Closed.{Closed}
 use Rattle.visit.specs.declared.Log.{Log}
 use Rattle.visit.specs.declared.Query.{Query}
-use Rattle.visit.specs.Visit.{closed_matches, closed_rows}
+use Rattle.visit.specs.Visit.{closed_rows}
 use Rattle.visit.specs.Inner.Sound.{ClosedSound}
 use Rattle.walk.specs.declared.Cursor.{Cursor}
-use Rattle.walk.specs.declared.Step.{Step}
-use Rattle.walk.specs.declared.Step.TheVariants.{End, Damage, Pass, Visit}
-use Rattle.walk.specs.Advance.{advance_of}
 use Rattle.walk.specs.Inner.Sound.{Sound}
+use Rattle.found.specs.Inner.Turns.{Onward}
 use Rattle.found.specs.Found.{join_rows}
 use Rattle.found.specs.Inner.Slots.{slots_below, serial_in}
 use Rattle.found.proofs.All.{join_none}
-use Rattle.found.proofs.Counts.{never}
-use Rattle.found.proofs.Falling.{pass_facts, visit_facts}
-use Rattle.found.proofs.Matched.{closed_none}
-use Rattle.found.proofs.Most.{slots_fewer, slot_left, serial_read}
-use Rattle.found.proofs.Segments.{rows_end, rows_damage, rows_pass, rows_visit}
-use Rattle.whole_log.specs.declared.Gathering.{Gathering}
-use Rattle.whole_log.specs.Inner.Held.{rows_on, set_in, places_in, row_at, rows_held, closed_sweep, Room, Found, Held}
-use Rattle.whole_log.specs.Inner.Turns.{Left, after, Ends, Goes, GathersOn}
-use Rattle.whole_log.proofs.SideBySide.{set_new, set_kept}
-use Rattle.whole_log.proofs.Segments.{swept_words, segment_rows, visit_read_lem, found_closed, rows_closed}
+use Rattle.found.proofs.Most.{slots_most_lem, slot_left, serial_read}
+use Rattle.whole_log.specs.Inner.Held.{rows_on, no_set, set_in, places_in, row_at, rows_held, closed_sweep, Room, Found, Held}
+use Rattle.whole_log.specs.Inner.Turns.{Left, after, Puts, Whole, Goes}
+use Rattle.whole_log.proofs.Segments.{segment_rows, visit_read_lem, found_closed, rows_closed}
 
 -- ---- segments from one on that stay as they are
 
-pub record Kept (g : Log) (way sets new_way new_sets : List ℕ) (low : ℕ) : Type 0 where
+pub record Kept (g : Log) (way : List ℕ) (sets : List Bits) (new_way : List ℕ) (new_sets : List Bits) (low : ℕ) : Type 0 where
   pub slot_is : (j : ℕ) → low ≤ j → j ≤ g.slots → get_or new_way j 0 ≡ get_or way j 0
   pub set_is : (j : ℕ) → low ≤ j → j ≤ g.slots → set_in new_sets j ≡ set_in sets j
 
@@ -50,7 +41,7 @@ rows_same row new_row places new_places (suc n) i e =
     let rest = rows_same row new_row places new_places n (suc i) (λ j a b. e j (omega arith) (omega arith)) in
     rw (e i (omega arith) (omega arith), rest)
 
-module _ (nand page : List ℕ) (g : Log) (way sets : List ℕ) where
+module _ (nand page : List ℕ) (g : Log) (way : List ℕ) (sets : List Bits) where
   -- the rows of the lowest segment, and of those above it
   pub rows_first : (i : ℕ) → i ≤ g.slots → rows_held nand page g way sets i
       ≡ map (row_at nand page g way i) (places_in sets i) ++ rows_held nand page g way sets (suc i)
@@ -66,7 +57,7 @@ module _ (nand page : List ℕ) (g : Log) (way sets : List ℕ) where
       let n : g.slots + 1 - g.slots ≡ 1 = omega arith in
       rw n
 
-  module _ (new_way new_sets : List ℕ) (low : ℕ) (kept : Kept g way sets new_way new_sets low) where
+  module _ (new_way : List ℕ) (new_sets : List Bits) (low : ℕ) (kept : Kept g way sets new_way new_sets low) where
     pub rows_kept : rows_held nand page g new_way new_sets low ≡ rows_held nand page g way sets low
     rows_kept =
         rows_same (row_at nand page g way) (row_at nand page g new_way) (places_in sets) (places_in new_sets) (g.slots + 1 - low) low
@@ -90,24 +81,22 @@ module _ (nand page : List ℕ) (g : Log) (way sets : List ℕ) where
 
 -- ---- one segment put into its place
 
-module _ (g : Log) (way sets : List ℕ) (room : Room g way sets) (i : ℕ) (inside : i ≤ g.slots) (slot : ℕ) where
-  pub slot_new : get_or (set way i slot) i 0 ≡ slot
-  slot_new = get_or-set_same way i slot 0 (omega (arith, room.ways))
+module _ (g : Log) (way : List ℕ) (sets : List Bits) (room : Room g way sets) (i : ℕ) (inside : i ≤ g.slots) (slot : ℕ) (m : Sweep)
+    (new_way : List ℕ) (new_sets : List Bits) (puts : Puts m i slot way sets new_way new_sets) where
+  pub slot_put : get_or new_way i 0 ≡ slot
+  slot_put = rw puts.way_is (get_or-set_same way i slot 0 (omega (arith, room.ways)))
 
-  module _ (ws : List ℕ) (words : length ws ≡ 5) where
-    fits : 5 * i + 5 ≤ length sets
-    fits = omega (arith, room.words)
+  pub set_put : set_in new_sets i ≡ m.set.words
+  set_put = ap (λ (b : Bits). b.words) (ap (λ (s : List Bits). get_or s i no_set) puts.sets_are ∙ get_or-set_same sets i m.set no_set (omega (arith, room.words)))
 
-    pub set_below : set_in (splice sets (5 * i) ws) i ≡ ws
-    set_below = set_new sets i ws words fits
-
-    -- those above it are kept
-    kept_below : Kept g way sets (set way i slot) (splice sets (5 * i) ws) (suc i)
-    kept_below =
-        record {
-          slot_is = λ j a b. get_or-set_other way i j slot 0 (λ e. omega arith);
-          set_is = λ j a b. set_kept sets i ws words fits j a (omega (arith, room.words));
-        }
+  -- those above it are kept
+  kept_above : Kept g way sets new_way new_sets (suc i)
+  kept_above =
+      record {
+        slot_is = λ j a b. rw puts.way_is (get_or-set_other way i j slot 0 (λ e. omega arith));
+        set_is = λ j a b. ap (λ (b : Bits). b.words)
+            (ap (λ (s : List Bits). get_or s j no_set) puts.sets_are ∙ get_or-set_other sets i j m.set no_set (λ e. omega arith));
+      }
 
 join_assoc : (o : Option (List (List ℕ))) (a b : List (List ℕ)) → join_rows (join_rows o (some a)) (some b) ≡ join_rows o (some (a ++ b))
 join_assoc none a b = refl
@@ -119,210 +108,152 @@ pub record Searchable (nand : List ℕ) (s : Closed) (low : ℕ) : Type 0 where
   pub slot_most : s.slot < 65536
   pub place : 1 ≤ low
 
--- ---- one turn
+-- ---- one turn, from where the walk and the segments in hand stand
 
-module _ (nand : List ℕ) (g : Log) (q : Query) (size : length nand ≡ g.slots * 16384) (way sets : List ℕ) (room : Room g way sets)
-    (r : Gathering) (sound : Sound g.slots r.c) (low_most : r.low ≤ g.slots) (left : Left nand g r.c r.low) where
+module _ (nand : List ℕ) (g : Log) (q : Query) (size : length nand ≡ g.slots * 16384) (way : List ℕ) (sets : List Bits) (room : Room g way sets)
+    (at : Cursor) (low : ℕ) (low_most : low ≤ g.slots) (left : Left nand g at low) where
   abbrev live : Live
   live = serials_from g.oldest
 
-  abbrev step : Step
-  step = advance_of nand g.slots live q r.c
-
   -- older rows, with those of the segments in hand
   abbrev joined : List ℕ → Option (List (List ℕ)) → Option (List (List ℕ))
-  joined page older = join_rows older (some (rows_held nand page g way sets r.low))
+  joined page older = join_rows older (some (rows_held nand page g way sets low))
 
-  abbrev Turn : List ℕ → List ℕ → Gathering → Type 0
-  Turn new_way new_sets next = GathersOn nand g q way sets r new_way new_sets next
+  module _ (nor page : List ℕ) (o : Option (List (List ℕ))) (i : Goes nand nor page g q o way sets at low) where
+    -- no segment is left
+    gather_end : after nand g q at ≡ some [] → Whole nand nor page g q o way sets low
+    gather_end e = record { held = i.held; rows = i.rows ∙ ap (joined page) e }
 
-  pub gather_end : step ≡ End → Turn way sets (record { done = true; good = true; c = r.c; low = r.low })
-  gather_end e =
-      record {
-        leads = λ nor page o i. (
-          λ h. never h,
-          λ h. record {
-            held = λ t. i.held;
-            rows = λ t. i.rows ∙ ap (joined page) (rows_end nand g.slots live q size r.c sound e);
-            damage = λ t. never t;
-          },
-        );
-        sound = λ h. never h;
-        left = λ h. never h;
-        low_most = omega arith;
-        falls = λ h. never h;
-      }
-
-  pub gather_damage : step ≡ Damage → Turn way sets (record { done = true; good = false; c = r.c; low = r.low })
-  gather_damage e =
-      record {
-        leads = λ nor page o i. (
-          λ h. never h,
-          λ h. record {
-            held = λ t. never (sym t);
-            rows = λ t. never (sym t);
-            damage = λ t. i.rows ∙ ap (joined page) (rows_damage nand g.slots live q size r.c sound e);
-          },
-        );
-        sound = λ h. never h;
-        left = λ h. never h;
-        low_most = omega arith;
-        falls = λ h. never h;
-      }
-
-  pub gather_pass : (d : Cursor) → step ≡ Pass d → Turn way sets (record { done = false; good = true; c = d; low = r.low })
-  gather_pass d e =
-      let f = pass_facts nand g.slots live q size r.c sound d e in
-      record {
-        leads = λ nor page o i. (
-          λ h. record {
-            held = i.held;
-            rows = i.rows ∙ ap (joined page) (rows_pass nand g.slots live q size r.c sound d e);
-          },
-          λ h. never (sym h),
-        );
-        sound = λ h. f.sound;
-        left = λ h. omega (arith, slots_fewer (serial_in nand) g.slots d.before r.c.before (omega (arith, f.falls)));
-        low_most = omega arith;
-        falls = λ h. f.falls;
-      }
+    gather_damage : after nand g q at ≡ none → o ≡ none
+    gather_damage e = i.rows ∙ ap (joined page) e
 
   -- ---- a segment that is searched
 
-  module _ (s : Closed) (d : Cursor) (e : step ≡ Visit s d) where
-    visit_sound : ClosedSound nand s
-    visit_sound = (visit_facts nand g.slots live q size r.c sound d s e).0
-
+  module _ (s : Closed) (d : Cursor) (v : Onward nand g.slots live q at s d) where
     visit_slot : s.slot < g.slots
-    visit_slot = omega (arith, visit_sound.inside)
+    visit_slot = omega (arith, v.closed.inside)
 
     -- there is a place for it
-    visit_left : suc (slots_below (serial_in nand) g.slots d.before) ≤ r.low
+    visit_left : suc (slots_below (serial_in nand) g.slots d.before) ≤ low
     visit_left =
-        let f = (visit_facts nand g.slots live q size r.c sound d s e).1.falls in
-        let is = rw e at (serial_read nand g.slots live q r.c) in
-        let l = slot_left (serial_in nand) g.slots s.slot d.before r.c.before visit_slot (omega arith) (omega arith) in
+        let falls = v.falls in
+        let is = rw v.steps at (serial_read nand g.slots live q v.stood) in
+        let l = slot_left (serial_in nand) g.slots s.slot d.before at.before visit_slot (omega arith) (omega arith) in
         omega (arith, left)
 
-    pub visit_searchable : Searchable nand s r.low
+    pub visit_searchable : Searchable nand s low
     visit_searchable =
-        record { sound = visit_sound; slot_most = omega (arith, visit_slot, room.slots_most_lem); place = omega (arith, visit_left) }
+        record { sound = v.closed; slot_most = omega (arith, visit_slot, room.slots_most_lem); place = omega (arith, visit_left) }
 
-    module _ (i : ℕ) (i_is : suc i ≡ r.low) (good : Bool) (good_is : good ≡ (closed_sweep nand s q).good) where
-      abbrev ws : List ℕ
-      ws = (closed_sweep nand s q).set.words
-
-      abbrev words : length ws ≡ 5
-      words = swept_words (closed_matches nand s q)
-
-      abbrev new_way : List ℕ
-      new_way = set way i s.slot
-
-      abbrev new_sets : List ℕ
-      new_sets = splice sets (5 * i) ws
-
+    module _ (i : ℕ) (i_is : suc i ≡ low) where
       inside : i < g.slots
       inside = omega arith
 
-      kept : Kept g way sets new_way new_sets (suc i)
-      kept = kept_below g way sets room i (omega arith) s.slot ws words
+      module _ (new_way : List ℕ) (new_sets : List Bits) (puts : Puts (closed_sweep nand s q) i s.slot way sets new_way new_sets) where
+        kept : Kept g way sets new_way new_sets (suc i)
+        kept = kept_above g way sets room i (omega arith) s.slot (closed_sweep nand s q) new_way new_sets puts
 
-      slot_is : get_or new_way i 0 ≡ s.slot
-      slot_is = slot_new g way sets room i (omega arith) s.slot
+        slot_is : get_or new_way i 0 ≡ s.slot
+        slot_is = slot_put g way sets room i (omega arith) s.slot (closed_sweep nand s q) new_way new_sets puts
 
-      set_is : set_in new_sets i ≡ ws
-      set_is = set_below g way sets room i (omega arith) s.slot ws words
+        set_is : set_in new_sets i ≡ (closed_sweep nand s q).set.words
+        set_is = set_put g way sets room i (omega arith) s.slot (closed_sweep nand s q) new_way new_sets puts
 
-      -- segments in hand above it
-      module _ (nor page : List ℕ) (held : Held nand nor page g q way sets (suc i)) where
-        any : 32 ≤ length page
-        any = (held.each g.slots (omega arith) (omega arith)).readable.recorded.any
+        -- segments in hand above it
+        module _ (nor page : List ℕ) (held : Held nand nor page g q way sets (suc i)) where
+          any : 32 ≤ length page
+          any = (held.each g.slots (omega arith) (omega arith)).readable.recorded.any
 
-        lowest : Found nand nor page g q new_way new_sets i
-        lowest =
-            found_closed nand g q s visit_sound i inside new_way new_sets slot_is set_is page any nor
-            (visit_read_lem nand g.slots live q r.c d s e)
+          lowest : Found nand nor page g q new_way new_sets i
+          lowest =
+              found_closed nand g q s v.closed i inside new_way new_sets slot_is set_is page any nor
+              (visit_read_lem nand g.slots live q v.stood d s v.steps)
 
-        held_more : Held nand nor page g q new_way new_sets i
-        held_more = record { low_most = omega arith; each = λ j a b. go j a b (dec_lt i j) }
-          where
-            go : (j : ℕ) → i ≤ j → j ≤ g.slots → Dec (i < j) → Found nand nor page g q new_way new_sets j
-            go j a b (yes l) = found_kept nand page g way sets new_way new_sets (suc i) kept nor q j l b (held.each j l b)
-            go j a b (no l) = let same : j ≡ i = omega arith in rw same lowest
+          held_more : Held nand nor page g q new_way new_sets i
+          held_more = record { low_most = omega arith; each = λ j a b. go j a b (dec_lt i j) }
+            where
+              go : (j : ℕ) → i ≤ j → j ≤ g.slots → Dec (i < j) → Found nand nor page g q new_way new_sets j
+              go j a b (yes l) = found_kept nand page g way sets new_way new_sets (suc i) kept nor q j l b (held.each j l b)
+              go j a b (no l) = let same : j ≡ i = omega arith in rw same lowest
 
-        rows_more : good ≡ true → (older : Option (List (List ℕ)))
-            → join_rows (join_rows older (closed_rows nand s q)) (some (rows_held nand page g way sets (suc i)))
-            ≡ join_rows older (some (rows_held nand page g new_way new_sets i))
-        rows_more t older =
-            ap (λ x. join_rows (join_rows older x) (some (rows_held nand page g way sets (suc i))))
-            (rows_closed nand g q s visit_sound i inside new_way new_sets slot_is set_is page any (sym good_is ∙ t))
-            ∙ join_assoc older _ _
-            ∙ ap (λ x. join_rows older (some x))
-            (ap (λ x. map (row_at nand page g new_way i) (places_in new_sets i) ++ x)
-            (sym (rows_kept nand page g way sets new_way new_sets (suc i) kept))
-            ∙ sym (rows_first nand page g new_way new_sets i (omega arith)))
+          rows_more : (older : Option (List (List ℕ)))
+              → join_rows (join_rows older (closed_rows nand s q)) (some (rows_held nand page g way sets (suc i)))
+              ≡ join_rows older (some (rows_held nand page g new_way new_sets i))
+          rows_more older =
+              ap (λ x. join_rows (join_rows older x) (some (rows_held nand page g way sets (suc i))))
+              (rows_closed nand g q s v.closed i inside new_way new_sets slot_is set_is page any puts.good)
+              ∙ join_assoc older _ _
+              ∙ ap (λ x. join_rows older (some x))
+              (ap (λ x. map (row_at nand page g new_way i) (places_in new_sets i) ++ x)
+              (sym (rows_kept nand page g way sets new_way new_sets (suc i) kept))
+              ∙ sym (rows_first nand page g new_way new_sets i (omega arith)))
 
-      pub gather_visit : Turn new_way new_sets (record { done = not good; good = good; c = d; low = i })
-      gather_visit =
-          let f = (visit_facts nand g.slots live q size r.c sound d s e).1 in
-          let is = rows_visit nand g.slots live q size r.c sound d s e in
-          record {
-            leads = λ nor page o j.
-                let held : Held nand nor page g q way sets (suc i) = rw i_is j.held in
-                let all : o ≡ join_rows (join_rows (after nand g q d) (closed_rows nand s q))
-                (some (rows_held nand page g way sets (suc i))) =
-                rw i_is (j.rows ∙ ap (joined page) is) in (
-                  λ h. record {
-                    held = held_more nor page held;
-                    rows = all ∙ rows_more nor page held (not-false good h) (after nand g q d);
-                  },
-                  λ h. record {
-                    held = λ t. never (sym t ∙ not-true good h);
-                    rows = λ t. never (sym t ∙ not-true good h);
-                    damage = λ t. j.rows ∙ ap (joined page) (is
-                        ∙ ap (join_rows (after nand g q d)) (closed_none nand s q (closed_sweep nand s q) refl (sym good_is ∙ t))
-                        ∙ join_none (after nand g q d));
-                  },
-                );
-            sound = λ h. f.sound;
-            left = λ h. omega (arith, visit_left);
-            low_most = omega arith;
-            falls = λ h. f.falls;
-          }
+        gather_visit : (nor page : List ℕ) (o : Option (List (List ℕ))) → Goes nand nor page g q o way sets at low
+            → Goes nand nor page g q o new_way new_sets d i
+        gather_visit nor page o j =
+            let held : Held nand nor page g q way sets (suc i) = rw i_is j.held in
+            record {
+              held = held_more nor page held;
+              rows = rw i_is (j.rows ∙ ap (joined page) v.rows) ∙ rows_more nor page held (after nand g q d);
+            }
 
 -- ---- on the way, from a cursor that the open segment's rows stand behind
 
-module _ (nand : List ℕ) (g : Log) (q : Query) (way₀ sets₀ : List ℕ) (c : Cursor) where
-  pub record Going (way sets : List ℕ) (r : Gathering) : Type 0 where
-    pub busy : r.done ≡ false
-    pub ways : length way ≡ length way₀
-    pub words : length sets ≡ length sets₀
-    pub sound : Sound g.slots r.c
-    pub low_most : r.low ≤ g.slots
-    pub left : Left nand g r.c r.low
+module _ (nand : List ℕ) (g : Log) (q : Query) (way₀ : List ℕ) (sets₀ : List Bits) (c : Cursor) where
+  pub record Going (way : List ℕ) (sets : List Bits) (at : Cursor) (low : ℕ) : Type 0 where
+    pub room : Room g way sets
+    pub sound : Sound g.slots at
+    pub low_most : low ≤ g.slots
+    pub left : Left nand g at low
     pub leads : (nor page : List ℕ) (o : Option (List (List ℕ))) → Goes nand nor page g q o way₀ sets₀ c g.slots
-        → Goes nand nor page g q o way sets r.c r.low
+        → Goes nand nor page g q o way sets at low
 
-  pub going_room : (way sets : List ℕ) (r : Gathering) → Going way sets r → Room g way₀ sets₀ → Room g way sets
-  going_room way sets r i room =
-      let a = i.ways in
-      let b = i.words in
-      record { slots_most_lem = room.slots_most_lem; ways = omega (arith, room.ways); words = omega (arith, room.words) }
+  pub going_begun : Room g way₀ sets₀ → Sound g.slots c → Going way₀ sets₀ c g.slots
+  going_begun room sound =
+      record {
+        room = room;
+        sound = sound;
+        low_most = omega arith;
+        left = slots_most_lem (serial_in nand) g.slots c.before;
+        leads = λ nor page o j. j;
+      }
 
-  module _ (way sets : List ℕ) (r : Gathering) (i : Going way sets r) (new_way new_sets : List ℕ) (next : Gathering)
-      (o : GathersOn nand g q way sets r new_way new_sets next) where
-    pub going_on : length new_way ≡ length way → length new_sets ≡ length sets → next.done ≡ false → Going new_way new_sets next
-    going_on a b h =
-        record {
-          busy = h;
-          ways = a ∙ i.ways;
-          words = b ∙ i.words;
-          sound = o.sound h;
-          low_most = omega (arith, o.low_most, i.low_most);
-          left = o.left h;
-          leads = λ nor page all j. (o.leads nor page all (i.leads nor page all j)).0 h;
-        }
+  module _ (size : length nand ≡ g.slots * 16384) (way : List ℕ) (sets : List Bits) (at : Cursor) (low : ℕ) (i : Going way sets at low) where
+    -- what it comes to: no segment is left, or damage is met
+    pub going_over : after nand g q at ≡ some [] → (nor page : List ℕ) (o : Option (List (List ℕ)))
+        → Goes nand nor page g q o way₀ sets₀ c g.slots → Whole nand nor page g q o way sets low
+    going_over e nor page o j =
+        gather_end nand g q size way sets i.room at low i.low_most i.left nor page o (i.leads nor page o j) e
 
-    pub going_over : next.done ≡ true → (nor page : List ℕ) (all : Option (List (List ℕ)))
-        → Goes nand nor page g q all way₀ sets₀ c g.slots → Ends nand nor page g q all new_way new_sets next.good next.low
-    going_over h nor page all j = (o.leads nor page all (i.leads nor page all j)).1 h
+    pub going_spoilt : after nand g q at ≡ none → (nor page : List ℕ) (o : Option (List (List ℕ)))
+        → Goes nand nor page g q o way₀ sets₀ c g.slots → o ≡ none
+    going_spoilt e nor page o j =
+        gather_damage nand g q size way sets i.room at low i.low_most i.left nor page o (i.leads nor page o j) e
+
+    module _ (s : Closed) (d : Cursor) (v : Onward nand g.slots (serials_from g.oldest) q at s d) where
+      pub going_searchable : Searchable nand s low
+      going_searchable = visit_searchable nand g q size way sets i.room at low i.low_most i.left s d v
+
+      pub going_damage : closed_rows nand s q ≡ none → (nor page : List ℕ) (o : Option (List (List ℕ)))
+          → Goes nand nor page g q o way₀ sets₀ c g.slots → o ≡ none
+      going_damage e =
+          going_spoilt (v.rows ∙ ap (join_rows (after nand g q d)) e ∙ join_none (after nand g q d))
+
+      pub going_on : (new_way : List ℕ) (new_sets : List Bits) → Puts (closed_sweep nand s q) (low - 1) s.slot way sets new_way new_sets
+          → Going new_way new_sets d (low - 1)
+      going_on new_way new_sets puts =
+          let place = going_searchable.place in
+          let i_is : suc (low - 1) ≡ low = omega arith in
+          record {
+            room = record {
+              slots_most_lem = i.room.slots_most_lem;
+              ways = omega (arith, i.room.ways, ap length puts.way_is, length-set way (low - 1) s.slot);
+              words = omega (arith, i.room.words, ap length puts.sets_are, length-set sets (low - 1) (closed_sweep nand s q).set);
+            };
+            sound = v.sound;
+            low_most = omega (arith, i.low_most);
+            left = omega (arith, visit_left nand g q size way sets i.room at low i.low_most i.left s d v);
+            leads = λ nor page o j.
+                gather_visit nand g q size way sets i.room at low i.low_most i.left s d v (low - 1) i_is new_way new_sets puts nor page o
+                (i.leads nor page o j);
+          }

@@ -1,41 +1,29 @@
 // A whole log in hand (document 02, W-208): of each segment the slot and the set of its lifts that a search finds. Segment S is the open
-// one, those below it are the closed ones, the oldest lowest.
+// one, those below it are the closed ones, the oldest lowest. Slots and sets are two arrays: one of both would be padded past the stack
+// that a call for pairs may take (docs/FORMAT.md, "Stack").
 #![tactic(auto)]
 
 pub mod rise;
-pub mod sets;
 
-ghost use Rattle.std.specs.Prelude.{◌≡◌, false, ◌+◌, ◌*◌, ◌≤◌, ◌<◌, length, get_or, set};
-ghost use Rattle.codec.specs.Area.{splice};
+ghost use Rattle.std.specs.Prelude.{◌≡◌, true, false, IfOk, IfErr, ◌+◌, ◌*◌, ◌≤◌, ◌<◌, length, get_or, set};
 ghost use Rattle.flash.specs.Chip.{slot_of, slot_width, page_width};
 ghost use Rattle.skiplist.specs.Skip.{serials_from};
+ghost use Rattle.visit.specs.Visit.{closed_rows};
 ghost use Rattle.visit.specs.Inner.Sound.{ClosedSound, LogSound};
 ghost use Rattle.walk.specs.Inner.Sound.{Sound};
 ghost use Rattle.found.specs.Found.{found_rows};
-ghost use Rattle.whole_log.specs.Inner.Held.{set_words, lifts_at, records_at, closed_in, closed_sweep, open_sweep, set_for, Room};
-ghost use Rattle.whole_log.specs.Inner.Turns.{Left, Ends, GathersOn, GathersAll};
+ghost use Rattle.each_segment.specs.Inner.Turns.{IsDamage};
+ghost use Rattle.grounds.specs.declared.Ground.TheVariants.{Damage};
+ghost use Rattle.whole_log.specs.Inner.Held.{lifts_at, records_at, closed_in, closed_sweep, open_sweep, set_for, Room};
+ghost use Rattle.whole_log.specs.Inner.Turns.{Puts, Ends, GathersAll};
 
 use bitset::Bits;
 use flash::Page;
+use found::ahead;
+use grounds::Ground;
 use sweep::Records;
 use visit::{Closed, Log, Query};
-use walk::{Cursor, Step};
-
-// Whether no damage was met, and the oldest segment.
-#[derive(Clone, Copy)]
-pub struct Gathered {
-    pub good: bool,
-    pub low: usize,
-}
-
-// A log on its way: done at the last segment or at damage.
-#[derive(Clone, Copy)]
-struct Gathering {
-    done: bool,
-    good: bool,
-    c: Cursor,
-    low: usize,
-}
+use walk::Cursor;
 
 // Where the records of a segment's slot stand.
 pub fn lifts_of(nand: &[u8], slot: u16) -> &[u8]
@@ -51,13 +39,14 @@ pub fn records_of(g: Log, i: usize) -> Records
     ensures { result ≡ records_at g i }
 {
     if i < g.slots as usize {
-        return Records {
+        Records {
             count: lift::LIFTS_MOST,
             buckets: 0,
             first: lift::LIFTS_MOST as usize,
-        };
+        }
+    } else {
+        visit::open_records(g)
     }
-    visit::open_records(g)
 }
 
 // The closed segment in a slot, by its header.
@@ -73,7 +62,7 @@ fn closed_in(nand: &[u8], slot: usize) -> Closed
     }
 }
 
-// The open segment.
+// The open segment becomes segment S.
 fn gather_open(
     nand: &[u8],
     nor: &[u8],
@@ -81,135 +70,73 @@ fn gather_open(
     g: Log,
     q: Query,
     way: &mut [u16],
-    sets: &mut [u64],
-) -> bool
+    sets: &mut [Bits],
+) -> Result<(), Ground>
     requires log_sound { LogSound nand.now nor.now g × Room g way.old sets.old }
     requires page_len { length page.now ≡ page_width }
-    ensures good { result ≡ (open_sweep nand.now nor.now page.now g q).good }
-    ensures way { way.new ≡ set way.old g.slots (slot_of g.current g.slots) }
-    ensures sets { sets.new ≡ splice sets.old (set_words * g.slots)
-        (open_sweep nand.now nor.now page.now g q).set.words }
+    ensures put { IfOk result (λ u. Puts (open_sweep nand.now nor.now page.now g q) g.slots (slot_of g.current g.slots)
+        way.old sets.old way.new sets.new) }
+    ensures damage { IfErr result (λ e. (e ≡ Damage) × ((open_sweep nand.now nor.now page.now g q).good ≡ false)) }
 {
     let top = g.slots as usize;
     way[top] = flash::slot_of(g.current, g.slots) as u16;
     if g.count == 0 {
-        let nothing = Bits::empty();
-        sets::put_set(sets, top, nothing);
-        return true;
+        sets[top] = Bits::empty();
+        return Ok(());
     }
-    let m = visit::open_matches(nand, nor, page, g, q);
-    let found = m.set;
-    sets::put_set(sets, top, found);
-    m.good
+    let Some(set) = visit::open_matches(nand, nor, page, g, q) else {
+        return Err(Ground::Damage);
+    };
+    sets[top] = set;
+    Ok(())
 }
 
 // A closed segment becomes segment i.
-fn gather_one(nand: &[u8], s: Closed, q: Query, i: usize, way: &mut [u16], sets: &mut [u64]) -> bool
-    requires closed_sound { ClosedSound nand.now s × (s.slot < 65536) }
-    requires i_in_bounds { (i < length way.old) × (set_words * i + set_words ≤ length sets.old) }
-    ensures good { result ≡ (closed_sweep nand.now s q).good }
-    ensures way { way.new ≡ set way.old i s.slot }
-    ensures sets { sets.new ≡ splice sets.old (set_words * i) (closed_sweep nand.now s q).set.words }
-{
-    let m = visit::closed_matches(nand, s, q);
-    let found = m.set;
-    way[i] = s.slot as u16;
-    sets::put_set(sets, i, found);
-    m.good
-}
-
-// One segment on.
-fn gather_on(
+fn gather_one(
     nand: &[u8],
-    g: Log,
+    s: Closed,
     q: Query,
+    i: usize,
     way: &mut [u16],
-    sets: &mut [u64],
-    r: Gathering,
-) -> Gathering
-    requires nand_len { (length nand.now ≡ g.slots * slot_width) × (1 ≤ q.k1) × Room g way.old sets.old }
-    requires done_value { (r.done ≡ false) × Sound g.slots r.c }
-    requires low_le_slots { (r.low ≤ g.slots) × Left nand.now g r.c r.low }
-    ensures { GathersOn nand.now g q way.old sets.old r
-        way.new sets.new result }
+    sets: &mut [Bits],
+) -> Result<(), Ground>
+    requires closed_sound { ClosedSound nand.now s × (s.slot < 65536) }
+    requires i_in_bounds { (i < length way.old) × (i < length sets.old) }
+    ensures put { IfOk result (λ u. Puts (closed_sweep nand.now s q) i s.slot way.old sets.old way.new sets.new) }
+    ensures damage { IfErr result (IsDamage (closed_rows nand.now s q)) }
 {
-    let c = r.c;
-    let low = r.low;
-    if walk::at_end(c, g.oldest) {
-        return Gathering {
-            done: true,
-            good: true,
-            c,
-            low,
-        };
-    }
-    let p = c.next;
-    let seen = walk::look(nand, g.slots, q, p.slot, c.before);
-    let step = walk::step_of(p.slot, seen);
-    match step {
-        Step::End => Gathering {
-            done: true,
-            good: true,
-            c,
-            low,
-        },
-        Step::Damage => Gathering {
-            done: true,
-            good: false,
-            c,
-            low,
-        },
-        Step::Pass(d) => Gathering {
-            done: false,
-            good: true,
-            c: d,
-            low,
-        },
-        Step::Visit(s, d) => {
-            let i = low - 1;
-            let good = gather_one(nand, s, q, i, way, sets);
-            Gathering {
-                done: !good,
-                good,
-                c: d,
-                low: i,
-            }
-        }
-    }
+    let Some(set) = visit::closed_matches(nand, s, q) else {
+        return Err(Ground::Damage);
+    };
+    way[i] = s.slot as u16;
+    sets[i] = set;
+    Ok(())
 }
 
-// The closed segments from a cursor on.
+// The closed segments from a cursor on; which one is the oldest.
 fn gather_closed(
     nand: &[u8],
     g: Log,
     q: Query,
     c: Cursor,
     way: &mut [u16],
-    sets: &mut [u64],
-) -> Gathered
+    sets: &mut [Bits],
+) -> Result<usize, Ground>
     requires nand_len { (length nand.now ≡ g.slots * slot_width) × (1 ≤ q.k1) × Room g way.old sets.old }
     requires sound { Sound g.slots c }
     ensures { GathersAll nand.now g q way.old sets.old c way.new sets.new result }
 {
-    let mut r = Gathering {
-        done: false,
-        good: true,
-        c,
-        low: g.slots as usize,
-    };
-    loop {
-        r = gather_on(nand, g, q, way, sets, r);
-        let done = r.done;
-        if done {
-            return Gathered {
-                good: r.good,
-                low: r.low,
-            };
-        }
+    let mut at = c;
+    let mut low = g.slots as usize;
+    while let Some((s, d)) = ahead::onward(nand, g.slots, g.oldest, q, at)? {
+        low -= 1;
+        gather_one(nand, s, q, low, way, sets)?;
+        at = d;
     }
+    Ok(low)
 }
 
-// All segments of a log.
+// All segments of a log; which one is the oldest.
 pub fn gather(
     nand: &[u8],
     nor: &[u8],
@@ -217,24 +144,19 @@ pub fn gather(
     g: Log,
     q: Query,
     way: &mut [u16],
-    sets: &mut [u64],
-) -> Gathered
+    sets: &mut [Bits],
+) -> Result<usize, Ground>
     requires log_sound { LogSound nand.now nor.now g × Room g way.old sets.old }
     requires page_len { (length page.now ≡ page_width) × (1 ≤ q.k1) }
     ensures { Ends nand.now nor.now page.now g q
         (found_rows nand.now nor.now page.now g (serials_from g.oldest) q)
-        way.new sets.new result.good result.low }
+        way.new sets.new result }
 {
-    let start = walk::start_of(nand, g, q);
-    let c = start.at;
-    let open = gather_open(nand, nor, page, g, q, way, sets);
-    let good = c.good & open;
-    if !good {
-        return Gathered {
-            good: false,
-            low: g.slots as usize,
-        };
+    let c = walk::start_of(nand, g, q).at;
+    if !c.good {
+        return Err(Ground::Damage);
     }
+    gather_open(nand, nor, page, g, q, way, sets)?;
     gather_closed(nand, g, q, c, way, sets)
 }
 
@@ -247,12 +169,10 @@ pub fn set_of(nand: &[u8], nor: &[u8], page: &[u8], g: Log, q: Query, way: &[u16
 {
     if i < g.slots as usize {
         let s = closed_in(nand, way[i] as usize);
-        let m = visit::closed_matches(nand, s, q);
-        return m.set;
+        return visit::closed_matches(nand, s, q).unwrap_or(Bits::empty());
     }
     if g.count == 0 {
         return Bits::empty();
     }
-    let m = visit::open_matches(nand, nor, page, g, q);
-    m.set
+    visit::open_matches(nand, nor, page, g, q).unwrap_or(Bits::empty())
 }

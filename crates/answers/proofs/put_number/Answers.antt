@@ -1,26 +1,17 @@
--- `answers::put_number` meets its contract. The invariant: what is left to write, written, gives what the whole gives.
-use mathlib.Core.Path.{refl, ap, ◌∙◌}
-use Prim.Native.Nat.{◌-◌}
-use lib.ListN.{length-set}
+-- `answers::put_number` meets its contract, column by column from the last.
+use Rattle.std.proofs.Common.{ap, ◌∙◌, arith}
 use Rattle.codec.specs.Area.{splice}
 use Rattle.answers.proofs.Justified.{pen_written}
 use Rattle.answers.proofs.Printing.{column_step, columns_done}
-use native.Mathlib.Omega.{arith}
-use borrow.Author.Rules.{rules}
 use Rattle.answers.proofs.put_number.Goals as goal
 
-pub loop-left-init : goal.loop-left-init
-loop-left-init c = (search rules, (refl, ap (splice _ _) (pen_written _ _ _)))
+pub loop-column-init : goal.loop-column-init
+loop-column-init c = ap (splice _ _) (pen_written _ _ _)
 
-pub loop-left-preserved : goal.loop-left-preserved
-loop-left-preserved c = (
-  simp length-set (omega arith),
-  (
-    simp length-set c.loop-left.invariant.1.0,
-    rw (c.pen_next-p.ensures, c.pen_byte-b.ensures)
-        (column_step _ _ _ _ c.loop-left-test.true c.loop-left.invariant.0 ∙ c.loop-left.invariant.1.1),
-  ),
-)
+pub loop-column-preserved : goal.loop-column-preserved
+loop-column-preserved c =
+    rw (c.next-pen.ensures, c.byte.ensures)
+    (column_step _ _ c.loop-column.column _ c.loop-column-test.true (omega arith) ∙ c.loop-column.invariant)
 
 pub returns : goal.returns
-returns c = columns_done _ _ _ _ _ c.loop-left-test.false c.loop-left.invariant.1.1
+returns c = columns_done _ _ _ _ _ c.loop-column-test.false c.loop-column.invariant

@@ -1,5 +1,10 @@
 -- What an append over areas relies on once no ground refuses it. Assumes nothing.
 use Rattle.std.specs.Prelude.{◌≡◌, Bool, true, false, not, ◌&&◌, List, ℕ, ℤ, length}
+use Rattle.std.specs.declared.option.Option.{Option}
+use Rattle.std.specs.declared.option.Option.TheVariants.{None, Some}
+use Rattle.std.specs.declared.result.Result.{Result}
+use Rattle.grounds.specs.declared.Ground.{Ground}
+use Rattle.grounds.specs.Numbers.{number_in}
 use Rattle.grow.specs.declared.Plan.{Plan}
 use Rattle.store.specs.World.{World, world}
 use Rattle.store.specs.Calls.{plan_of, room_world, drops_first, append_ground}
@@ -19,6 +24,11 @@ pub record Appending (area nand nor : List ℕ) (slots time : ℕ) (load : ℤ) 
 -- a forced drop is due
 abbrev pub drops_due : World → ℕ → ℤ → Bool
 drops_due w slots load = drops_first (room_world w slots (plan_of w load)).state slots
+
+-- the number of an append that went on; one that stopped before a drop has none, and 255 stands for it
+abbrev pub number_or_stop : {A : Type 0} → Option (Result A Ground) → ℕ
+number_or_stop None = 255
+number_or_stop (Some r) = number_in r
 
 -- past grounds 1 to 8: it stops before such a drop where it may not drop, and says so by 255; else it is the plain append
 pub record GoesOn (may_drop : Bool) (area nand nor : List ℕ) (slots time : ℕ) (load : ℤ) (note : List ℕ) (l : Left) : Type 0 where

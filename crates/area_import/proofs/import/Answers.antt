@@ -1,34 +1,19 @@
 -- `area_import::import` meets its contract: a ground from 1 to 3, a bad header, or the lines behind it.
-use mathlib.Core.Path.{◌≡◌, sym, ◌∙◌}
-use native.Mathlib.Omega.{arith}
+use mathlib.Core.Path.{sym, ◌∙◌}
 use Rattle.store.specs.Inner.Pieces.{bounds_ground}
+use Rattle.grounds.proofs.Numbers.{refused}
 use Rattle.import.proofs.Folding.{text_refused, heading_bad, heading_good}
 use Rattle.areas.specs.Areas.{lent, lent_ground, import_in}
 use Rattle.area_import.proofs.import.Goals as goal
 
-pub returns-then-number-ne0 : goal.returns-then-number-ne0
+pub returns-in-Err : goal.returns-in-Err
 unfolding import_in bounds_ground
-returns-then-number-ne0 c =
-    let judged : let a = c.args in c.ground-number.result ≡ lent_ground a.slots (lent a.state.now a.nand.now a.nor.now) = c.ground-number.ensures in
-    text_refused _ _ _ _ _ _ judged c.if-number-ne0.true
+returns-in-Err c = text_refused _ _ _ _ _ _ c.in-Err.ensures (refused c.in-Err.ground)
 
-pub returns-then-not-good : goal.returns-then-not-good
+pub returns-in_default-heading_of : goal.returns-in_default-heading_of
 unfolding import_in bounds_ground
-returns-then-not-good c =
-    let judged : let a = c.args in c.ground-number.result ≡ lent_ground a.slots (lent a.state.now a.nand.now a.nor.now) = c.ground-number.ensures in
-    let none : let a = c.args in lent_ground a.slots (lent a.state.now a.nand.now a.nor.now) ≡ 0 = sym judged ∙ omega (arith, c.if-number-ne0.false) in
-    heading_bad _ _ _ _ _ none _ c.heading_of-h.ensures c.if-not-good.true
-
-pub import_lines-requires : goal.import_lines-requires
-import_lines-requires c =
-    let h = c.heading_of-h.ensures in
-    let good = c.if-not-good.false in
-    (c.requires, h.past good, h.inside good)
+returns-in_default-heading_of c = heading_bad _ _ _ _ _ (sym c.in_default.ensures) c.in_default-heading_of.ensures
 
 pub returns : goal.returns
 unfolding import_in bounds_ground
-returns c =
-    let judged : let a = c.args in c.ground-number.result ≡ lent_ground a.slots (lent a.state.now a.nand.now a.nor.now) = c.ground-number.ensures in
-    let none : let a = c.args in lent_ground a.slots (lent a.state.now a.nand.now a.nor.now) ≡ 0 = sym judged ∙ omega (arith, c.if-number-ne0.false) in
-    c.import_lines.ensures
-    ∙ heading_good _ _ _ _ _ none _ c.heading_of-h.ensures c.if-not-good.false
+returns c = c.import_lines.ensures ∙ heading_good _ _ _ _ _ (sym c.in_default.ensures) c.in-Some.ensures

@@ -22,7 +22,7 @@ loop-i-preserved c =
     let b = c.args.b.now in
     let n = length_loads_at b 75 13 in
     let x = read_back _ _ c.load_at-x.type_inv c.load_at-x.ensures in
-    let e = c.load_ok-ok.ensures ∙ ap load_ok (x ∙ sym (load_among b 75 13 c.loop-i.i (pos 0) (omega arith))) in
+    let e = c.load_ok-good.ensures ∙ ap load_ok (x ∙ sym (load_among b 75 13 c.loop-i.i (pos 0) (omega arith))) in
     (search rules, load_tested (loads_at b 75 13) c.loop-i.i c.loop-i.good _ (omega arith) e ∙ c.loop-i.invariant.1)
 
 pub returns : goal.returns

@@ -1,15 +1,10 @@
--- `note`: the three bits one after the other.
-use Rattle.bloom.specs.Bloom.{noted}
+-- `note`: the section is an area of its own.
+use Rattle.std.proofs.Common.{◌≡◌, ◌∙◌, length, rules}
+use Rattle.codec.proofs.Areas.{part_all, splice_all}
+use Rattle.bloom.proofs.Section.{length_noted}
 use Rattle.bloom.proofs.note.Goals as goal
 
 pub returns : goal.returns
-unfolding noted
 returns c =
-    simp (
-      c.set_bit.ensures,
-      c.bloom_bit-3.ensures.0,
-      c.set_bit-two.ensures,
-      c.bloom_bit-2.ensures.0,
-      c.set_bit-one.ensures,
-      c.bloom_bit.ensures.0,
-    )
+    let long : length c.args.section ≡ 128 = search rules in
+    c.note_at.ensures ∙ rw (part_all c.args.section 128 long) (splice_all _ _ (length_noted _ _))

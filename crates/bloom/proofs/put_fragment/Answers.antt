@@ -16,10 +16,10 @@ returns-then-j-count c =
     ∙ ap (splice a.d.now a.at)
     (e ∙ part_in_nor a.nor.now a.buffer.now a.count a.j c.requires.nor_len.0 c.requires.nor_len.1 a.from (a.to - a.from) (omega arith) (omega arith))
 
-pub returns : goal.returns
-returns c =
+pub returns-else-j-count : goal.returns-else-j-count
+returns-else-j-count c =
     let a = c.args in
     let e = part_from a.buffer.now a.from a.to (a.to - a.from) (omega arith) in
-    c.copy-2.ensures
+    c.copy-else-j-count.ensures
     ∙ ap (splice a.d.now a.at)
     (e ∙ part_in_buffer a.nor.now a.buffer.now a.count a.j a.from (a.to - a.from) (omega arith) c.requires.nor_len.2)

@@ -6,12 +6,10 @@ use Rattle.bloom.proofs.stored_byte.Goals as goal
 
 pub returns-then-n-l : goal.returns-then-n-l
 returns-then-n-l c =
-    let a = c.args in
     let p = c.requires in
-    sym (section_front a.pages.now a.l a.j p.0 p.1 p.2 a.n p.3 (omega arith))
+    sym (section_front _ _ _ p.0 p.1 p.2 _ p.3 (omega arith))
 
-pub returns : goal.returns
-returns c =
-    let a = c.args in
+pub returns-else-n-l : goal.returns-else-n-l
+returns-else-n-l c =
     let p = c.requires in
-    sym (section_back a.pages.now a.l a.j p.0 p.1 p.2 a.n p.3 (omega arith))
+    sym (section_back _ _ _ p.0 p.1 p.2 _ p.3 (omega arith))

@@ -3,11 +3,7 @@ use mathlib.Core.Path.{◌≡◌}
 use lib.ListN.{length, take}
 use Rattle.lift.specs.Limits.{stored}
 use mathlib.Core.List.{map}
-use Prim.Native.Nat.{◌≤◌, ◌-◌}
 use Rattle.bounds.proofs.stored_loads.Given as goal
 
 abbrev pub invariant-loop-i : goal.invariant-loop-i
-invariant-loop-i l = (l.i ≤ 13) × ((length l.c ≡ 13) × (take l.i l.c ≡ take l.i (map stored l.loads)))
-
-abbrev pub decreases-loop-i : goal.decreases-loop-i
-decreases-loop-i l = 13 - l.i
+invariant-loop-i l = (length l.c ≡ 13) × (take l.i l.c ≡ take l.i (map stored l.fn.loads))

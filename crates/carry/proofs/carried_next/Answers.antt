@@ -7,4 +7,4 @@ returns-in-Old c =
 
 pub returns-in-New : goal.returns-in-New
 returns-in-New c =
-    rw c.in-New.is c.next_there.ensures
+    rw c.in-New.is c.saturating_sub.ensures

@@ -5,4 +5,4 @@ use Rattle.carry.proofs.carried_state.Goals as goal
 pub returns : goal.returns
 unfolding state_into
 returns c =
-    rw (c.carried_next-next.ensures, c.carried_pointers-heads.ensures)
+    rw (c.carried_next.ensures, c.carried_pointers-s.ensures)

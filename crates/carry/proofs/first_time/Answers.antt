@@ -19,6 +19,6 @@ pub returns-then-s-eq0 : goal.returns-then-s-eq0
 returns-then-s-eq0 c =
     first_none _ _ _ _ c.if-s.false c.if-s-eq0.true c.next_back.ensures
 
-pub returns : goal.returns
-returns c =
+pub returns-else-s-eq0 : goal.returns-else-s-eq0
+returns-else-s-eq0 c =
     first_open _ _ _ c.if-s.false c.if-s-eq0.false

@@ -8,6 +8,6 @@ pub returns-then-new : goal.returns-then-new
 returns-then-new c =
     sym (ap (λ b. cond b 0 (c.args.next + 1)) c.if-new.true)
 
-pub returns : goal.returns
-returns c =
+pub returns-else-new : goal.returns-else-new
+returns-else-new c =
     sym (ap (λ b. cond b 0 (c.args.next + 1)) c.if-new.false)

@@ -1,14 +1,8 @@
 -- `codec::put` meets its contract. The invariant: what is left to store, stored, gives what the whole gives. Assumes nothing.
-use mathlib.Core.Path.{◌≡◌}
-use Prim.Native.Nat.{◌+◌, ◌-◌, ◌≤◌}
-use lib.ListN.{length}
+use Rattle.std.proofs.Common.{◌≡◌, ◌-◌, length}
 use lib.Seq.{sets}
 use Rattle.codec.specs.Number.{bytes}
 use Rattle.codec.proofs.put.Given as goal
 
-abbrev pub invariant-loop-left : goal.invariant-loop-left
-invariant-loop-left l =
-    (l.to + l.left ≤ length l.s) × ((length l.s ≡ length l.initial.s) × (sets l.s l.to (bytes l.left l.rest) ≡ sets l.initial.s l.at (bytes l.n l.v)))
-
-abbrev pub decreases-loop-left : goal.decreases-loop-left
-decreases-loop-left l = l.left
+abbrev pub invariant-loop-b : goal.invariant-loop-b
+invariant-loop-b l = (length l.b-items ≡ l.n) × (sets l.b-items l.b-index (bytes (l.n - l.b-index) l.rest) ≡ bytes l.n l.v)

@@ -2,9 +2,8 @@
 use mathlib.Core.Path.{ap, ◌∙◌}
 use lib.ListN.{length}
 use Rattle.form.specs.declared.Form.TheVariants.{Old, New}
-use Rattle.retained.specs.declared.headers.Sought.TheVariants.{LatePointer}
-use Rattle.retained.specs.Retained.{any_late}
-use Rattle.retained.specs.Inner.Loops.{any_sought}
+use Rattle.retained.specs.Retained.{any_late, has_late}
+use Rattle.retained.specs.Inner.Loops.{any_header}
 use Rattle.conversion.specs.Inner.Pieces.{serials_of}
 use Rattle.conversion.proofs.Judged.{stands, next_most, counts_fit, not_rising, late_head, late_node}
 use native.Mathlib.Omega.{arith}
@@ -34,8 +33,8 @@ returns-then-any_late c =
     late_head c.args.nand.now c.args.s c.args.slots _ c.all_rise.ensures _ (ap not c.if-not-all_rise.false)
     (c.any_late.ensures ∙ ap (λ t. any_late c.args.s.oldest t c.args.s.heads) c.first_time-first.ensures) c.if-any_late.true
 
-pub any_closed-requires : goal.any_closed-requires
-any_closed-requires c =
+pub any_late_node-requires : goal.any_late_node-requires
+any_late_node-requires c =
     let st = stands New c.args.s 0 (length c.args.nand.now) c.args.slots c.requires.chips c.requires.bounds in
     (st.chips.nand_size, omega (arith, st.chips.least), st.serials.first, st.serials.rising)
 
@@ -43,4 +42,4 @@ pub returns : goal.returns
 returns c =
     late_node c.args.nand.now c.args.s c.args.slots _ c.all_rise.ensures _ _ (ap not c.if-not-all_rise.false)
     (c.any_late.ensures ∙ ap (λ t. any_late c.args.s.oldest t c.args.s.heads) c.first_time-first.ensures) c.if-any_late.false
-    (c.any_closed.ensures ∙ ap (λ t. any_sought LatePointer New (serials_of c.args.s c.args.slots) t c.args.nand.now) c.first_time-first.ensures)
+    (c.any_late_node.ensures ∙ ap (λ t. any_header (has_late c.args.s.oldest t) (serials_of c.args.s c.args.slots) c.args.nand.now) c.first_time-first.ensures)

@@ -1,7 +1,8 @@
--- What a count down gives, as the code has it: good with the counts, or damage. Assumes nothing.
-use Rattle.std.specs.Prelude.{cond, List, ℕ}
+-- What a count down gives, as the code has it: the counts, or none where there is damage. Assumes nothing.
+use Rattle.std.specs.Prelude.{List, ℕ, Some, None}
+use Rattle.std.specs.Prelude as Code
 use Rattle.std.proofs.Math.Option.{Option, none, some}
-use Rattle.counts.specs.declared.Down.{Down}
 
-abbrev pub down_of : Down → Option (List ℕ)
-down_of d = cond d.good (some d.counts) none
+abbrev pub down_of : Code.Option (List ℕ) → Option (List ℕ)
+down_of None = none
+down_of (Some counts) = some counts

@@ -1,54 +1,43 @@
 -- `csv_text::line_at` meets its contract: a time, a load and a member, one after the other.
-use mathlib.Core.Path.{◌∙◌}
+use Rattle.std.proofs.Common.{◌∙◌}
 use mir.Syntax.{w64}
 use mir.ValLaws.{to_z-of_z}
-use Rattle.csv_text.proofs.LineRead.{bad_first, second_inside, bad_second, third_inside, bad_third, member_small, end_there, good_line}
-use native.Mathlib.Omega.{arith}
-use borrow.Author.Rules.{rules}
-use mathlib.Core.Path.{ap}
-use mathlib.Core.Bool.{not}
+use Rattle.csv_text.proofs.LineRead.{no_time, no_first_comma, no_load, no_second_comma, no_member, no_end, too_large, line_read}
 use Rattle.csv_text.proofs.line_at.Goals as goal
 
-pub returns-then-not-t-is_byte : goal.returns-then-not-t-is_byte
-returns-then-not-t-is_byte c =
-    bad_first _ _ c.field_at-t.ensures c.is_byte.ensures _ c.bad.ensures (ap not c.if-not-t-is_byte.true)
+pub returns-in_err-time : goal.returns-in_err-time
+returns-in_err-time c = rw c.from_residual.ensures (no_time _ _ c.in_err-time.ensures)
 
-pub field_at-k-requires : goal.field_at-k-requires
-field_at-k-requires c =
-    second_inside _ _ c.field_at-t.ensures c.is_byte.ensures (ap not c.if-not-t-is_byte.false)
+pub returns-in_err-second : goal.returns-in_err-second
+returns-in_err-second c = rw c.from_residual-in_err-second.ensures (no_first_comma _ _ c.in_ok-time.ensures c.in_err-second.ensures)
 
-pub returns-then-not-k-is_byte : goal.returns-then-not-k-is_byte
-returns-then-not-k-is_byte c =
-    bad_second _ _ c.field_at-t.ensures c.is_byte.ensures (ap not c.if-not-t-is_byte.false) c.field_at-k.ensures c.is_byte-2.ensures
-    _ c.bad-then-not-k-is_byte.ensures (ap not c.if-not-k-is_byte.true)
+pub returns-in_err-load : goal.returns-in_err-load
+returns-in_err-load c =
+    rw c.from_residual-in_err-load.ensures (no_load _ _ c.in_ok-time.ensures c.in_ok-second.ensures c.in_err-load.ensures)
 
-pub field_at-m-requires : goal.field_at-m-requires
-field_at-m-requires c =
-    third_inside _ _ c.field_at-t.ensures c.is_byte.ensures (ap not c.if-not-t-is_byte.false) c.field_at-k.ensures c.is_byte-2.ensures
-    (ap not c.if-not-k-is_byte.false)
+pub returns-in_err-third : goal.returns-in_err-third
+returns-in_err-third c =
+    rw c.from_residual-in_err-third.ensures
+    (no_second_comma _ _ c.in_ok-time.ensures c.in_ok-second.ensures c.in_ok-load.ensures c.in_err-third.ensures)
 
-pub returns-then-not-m-ends_at : goal.returns-then-not-m-ends_at
-returns-then-not-m-ends_at c =
-    bad_third _ _ c.field_at-t.ensures c.is_byte.ensures (ap not c.if-not-t-is_byte.false) c.field_at-k.ensures c.is_byte-2.ensures
-    (ap not c.if-not-k-is_byte.false) c.field_at-m.ensures c.ends_at.ensures _ c.bad-then-not-m-ends_at.ensures (ap not c.if-not-m-ends_at.true)
+pub returns-in_err-member : goal.returns-in_err-member
+returns-in_err-member c =
+    rw c.from_residual-in_err-member.ensures
+    (no_member _ _ c.in_ok-time.ensures c.in_ok-second.ensures c.in_ok-load.ensures c.in_ok-third.ensures c.in_err-member.ensures)
 
-pub overflow_cast-result : goal.overflow_cast-result
-overflow_cast-result c =
-    omega (
-      arith,
-      member_small _ _ c.field_at-t.ensures c.is_byte.ensures (ap not c.if-not-t-is_byte.false) c.field_at-k.ensures c.is_byte-2.ensures
-          (ap not c.if-not-k-is_byte.false) c.field_at-m.ensures c.ends_at.ensures (ap not c.if-not-m-ends_at.false),
-    )
+pub returns-in_err-next : goal.returns-in_err-next
+returns-in_err-next c =
+    rw c.from_residual-in_err-next.ensures
+    (no_end _ _ c.in_ok-time.ensures c.in_ok-second.ensures c.in_ok-load.ensures c.in_ok-third.ensures c.in_ok-member.ensures
+    c.in_err-next.ensures)
 
-pub after_end-requires : goal.after_end-requires
-after_end-requires c = (
-  search rules,
-  end_there _ _ c.field_at-t.ensures c.is_byte.ensures (ap not c.if-not-t-is_byte.false) c.field_at-k.ensures c.is_byte-2.ensures
-      (ap not c.if-not-k-is_byte.false) c.field_at-m.ensures c.ends_at.ensures (ap not c.if-not-m-ends_at.false),
-)
-
-pub returns : goal.returns
-returns c =
+pub returns-then-member-le-MEMBER_MOST : goal.returns-then-member-le-MEMBER_MOST
+returns-then-member-le-MEMBER_MOST c =
     rw (to_z-of_z w64 c.load_of.result (record { sfits = c.load_of.type_inv }) ∙ c.load_of.ensures)
-    (good_line _ _ c.field_at-t.ensures c.is_byte.ensures (ap not c.if-not-t-is_byte.false) c.field_at-k.ensures c.is_byte-2.ensures
-    (ap not c.if-not-k-is_byte.false) c.field_at-m.ensures c.ends_at.ensures (ap not c.if-not-m-ends_at.false) _ c.after_end.ensures)
+    (line_read _ _ c.in_ok-time.ensures c.in_ok-second.ensures c.in_ok-load.ensures c.in_ok-third.ensures c.in_ok-member.ensures
+    _ c.in_ok-next.ensures c.if-member-le-MEMBER_MOST.true)
+
+pub returns-else-member-le-MEMBER_MOST : goal.returns-else-member-le-MEMBER_MOST
+returns-else-member-le-MEMBER_MOST c =
+    too_large _ _ c.in_ok-time.ensures c.in_ok-second.ensures c.in_ok-load.ensures c.in_ok-third.ensures c.in_ok-member.ensures
+    c.if-member-le-MEMBER_MOST.false

@@ -1,10 +1,6 @@
 -- `csv_text::run_at` meets its contract. The invariant: what is left to read from here gives what the whole gives.
-use Prim.Native.Nat.{◌-◌}
 use Rattle.csv_text.specs.Inner.Descent.{Running}
 use Rattle.csv_text.proofs.run_at.Given as goal
 
 abbrev pub invariant-loop-end : goal.invariant-loop-end
 invariant-loop-end l = Running l.text l.at l.most l.value l.end
-
-abbrev pub decreases-loop-end : goal.decreases-loop-end
-decreases-loop-end l = l.most - l.end

@@ -1,6 +1,6 @@
 -- What the code reads on its way through a line: digits, a field, the line's end. Assumes nothing.
 use Rattle.std.specs.Prelude.{◌≡◌, Bool, true, false, cond, ◌&&◌, List, [], ◌∷◌, ◌++◌, ℕ, zero, suc, ◌+◌, ◌-◌, ◌^◌, ◌≤◌, ◌<◌, eqb, leb, length, get_or, drop}
-use Rattle.lift_text.specs.Text.{heading}
+use Rattle.lift_text.specs.Text.{comma}
 use Rattle.csv_text.specs.declared.Run.{Run}
 use Rattle.csv_text.specs.declared.Field.{Field}
 use Rattle.csv_text.specs.Grammar.{all_digits, value_from}
@@ -65,14 +65,28 @@ pub record Front (signed : Bool) (bytes : List ℕ) (minus : Bool) (value : ℕ)
   pub form : Form signed field minus value
   pub whole : bytes ≡ field ++ behind
 
--- a field from `at` on: what is read is there, and one that is there before a stop is read
+-- a field from `at` on: what is read is there, and one that is there before a stop is this one
 pub record FieldRead (signed : Bool) (text : List ℕ) (at : ℕ) (f : Field) : Type 0 where
   pub inside : f.end ≤ length text
   pub small : f.value < 10 ^ 15
-  pub further : f.good ≡ true → at < f.end
-  pub good : f.good ≡ true → Front signed (drop at text) f.minus f.value (drop f.end text)
+  pub further : at < f.end
+  pub good : Front signed (drop at text) f.minus f.value (drop f.end text)
   pub only : (minus : Bool) (value : ℕ) (behind : List ℕ) → Front signed (drop at text) minus value behind → Stops behind
-      → (f.good ≡ true) × ((f.minus ≡ minus) × ((f.value ≡ value) × (drop f.end text ≡ behind)))
+      → (f.minus ≡ minus) × ((f.value ≡ value) × (drop f.end text ≡ behind))
+
+-- none before a stop
+pub record NoField (signed : Bool) (text : List ℕ) (at : ℕ) : Type 0 where
+  pub never : (minus : Bool) (value : ℕ) (behind : List ℕ) → Front signed (drop at text) minus value behind → Stops behind → ⊥
+
+-- ---- a comma
+
+pub record CommaPassed (text : List ℕ) (at next : ℕ) : Type 0 where
+  pub there : drop at text ≡ comma ∷ drop next text
+  pub inside : next ≤ length text
+  pub further : at < next
+
+pub record NoComma (text : List ℕ) (at : ℕ) : Type 0 where
+  pub never : (behind : List ℕ) → drop at text ≡ comma ∷ behind → ⊥
 
 -- ---- a line's end
 
@@ -86,14 +100,9 @@ unfoldable pub behind_end : List ℕ → List ℕ
 behind_end [] = []
 behind_end (b ∷ bytes) = drop 1 bytes
 
--- from where a line ends to where the next one begins
+-- a line ends at `at`, and the next one begins
 pub record EndPassed (text : List ℕ) (at next : ℕ) : Type 0 where
+  pub there : ends (drop at text) ≡ true
   pub from : at ≤ next
   pub inside : next ≤ length text
   pub behind : drop next text ≡ behind_end (drop at text)
-
--- ---- the header
-
-pub record Begins (text : List ℕ) (there : Bool) : Type 0 where
-  pub yes : there ≡ true → text ≡ heading ++ drop 16 text
-  pub no : there ≡ false → (bytes : List ℕ) → text ≡ heading ++ bytes → ⊥

@@ -1,8 +1,7 @@
 -- What the code reads from a place of the text on. Assumes nothing.
-use Rattle.std.specs.Prelude.{◌≡◌, true, false, List, [], ◌∷◌, ℕ, ◌≤◌, ◌<◌, length, drop}
+use Rattle.std.specs.Prelude.{◌≡◌, true, List, [], ◌∷◌, ℕ, ◌≤◌, ◌<◌, length, drop}
 use Rattle.std.proofs.Math.Option.{Option, none, some}
 use Rattle.lift_text.specs.Text.{Told}
-use Rattle.csv_text.specs.declared.Heading.{Heading}
 use Rattle.csv_text.specs.declared.Line.{Line}
 use Rattle.csv_text.specs.Grammar.{lines_of, has_heading, after_first, record_in}
 
@@ -14,17 +13,16 @@ first_record (line ∷ lines) = record_in line
 abbrev pub told_by : Line → Told
 told_by l = record { time = l.time; load = l.load; member = l.member }
 
--- the line from `at` on, and where the next one begins
+-- a record's line from `at` on, and where the next one begins
 pub record LineRead (text : List ℕ) (at : ℕ) (l : Line) : Type 0 where
-  pub bad : l.good ≡ false → first_record (lines_of (drop at text)) ≡ none
-  pub good : l.good ≡ true → first_record (lines_of (drop at text)) ≡ some (told_by l)
-  pub on : l.good ≡ true → after_first (lines_of (drop at text)) ≡ lines_of (drop l.next text)
-  pub further : l.good ≡ true → at < l.next
-  pub inside : l.good ≡ true → l.next ≤ length text
+  pub says : first_record (lines_of (drop at text)) ≡ some (told_by l)
+  pub on : after_first (lines_of (drop at text)) ≡ lines_of (drop l.next text)
+  pub further : at < l.next
+  pub inside : l.next ≤ length text
 
 -- the header, and where the next line begins
-pub record HeadingRead (text : List ℕ) (h : Heading) : Type 0 where
-  pub is : h.good ≡ has_heading (lines_of text)
-  pub on : h.good ≡ true → after_first (lines_of text) ≡ lines_of (drop h.next text)
-  pub inside : h.good ≡ true → h.next ≤ length text
-  pub past : h.good ≡ true → 2 ≤ h.next
+pub record HeadingRead (text : List ℕ) (next : ℕ) : Type 0 where
+  pub is : has_heading (lines_of text) ≡ true
+  pub on : after_first (lines_of text) ≡ lines_of (drop next text)
+  pub inside : next ≤ length text
+  pub past : 2 ≤ next

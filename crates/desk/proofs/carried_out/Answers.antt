@@ -3,7 +3,7 @@ use mathlib.Core.Path.{◌≡◌}
 use mir.Syntax.{w32}
 use mir.Val.{to_z, of_z}
 use mir.ValLaws.{to_z-of_z}
-use Rattle.desk.proofs.Obeying.{append_obeyed, close_obeyed, drop_obeyed, search_obeyed, tally_obeyed, page_obeyed, other_obeyed}
+use Rattle.desk.proofs.Obeying.{append_obeyed, close_obeyed, drop_obeyed, asked_obeyed}
 use Rattle.desk.proofs.carried_out.Goals as goal
 
 pub returns-in-Append : goal.returns-in-Append
@@ -21,13 +21,4 @@ returns-in-Drop c =
     drop_obeyed _ c.in-Drop.is c.drop.ensures
 
 pub returns-in-Search : goal.returns-in-Search
-returns-in-Search c = search_obeyed _ c.in-Search.is
-
-pub returns-in-Tally : goal.returns-in-Tally
-returns-in-Tally c = tally_obeyed _ c.in-Tally.is
-
-pub returns-in-Page : goal.returns-in-Page
-returns-in-Page c = page_obeyed _ c.in-Page.is
-
-pub returns-in-Other : goal.returns-in-Other
-returns-in-Other c = other_obeyed _ c.in-Other.is
+returns-in-Search c = asked_obeyed _ c.in-Search.is

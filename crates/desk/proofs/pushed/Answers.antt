@@ -10,7 +10,7 @@ returns-then-n-lt-LINE_BYTES c =
     let n : length c.args.s.line ≡ 48 = search rules in
     (search rules, (refl, push_more _ _ _ n c.if-n-lt-LINE_BYTES.true))
 
-pub returns : goal.returns
-returns c =
+pub returns-else-n-lt-LINE_BYTES : goal.returns-else-n-lt-LINE_BYTES
+returns-else-n-lt-LINE_BYTES c =
     let n : length c.args.s.line ≡ 48 = search rules in
     (search rules, (refl, push_full _ _ _ n c.requires c.if-n-lt-LINE_BYTES.false))

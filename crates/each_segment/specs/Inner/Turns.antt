@@ -1,18 +1,16 @@
 -- The segments of a question in turn, the newest first: the rows of the one at hand, and those that are left. Assumes nothing.
-use Rattle.std.specs.Prelude.{◌≡◌, true, false, not, cond, List, [], map, ℕ, ◌+◌, ◌*◌, ◌≤◌, ◌<◌, length}
+use Rattle.std.specs.Prelude.{◌≡◌, List, [], map, ℕ, ◌+◌, ◌*◌, ◌≤◌, length, Some, None}
+use Rattle.std.specs.Prelude.{Option as Maybe}
 use Rattle.std.proofs.Math.Option.{Option, none, some}
 use Rattle.flash.specs.Chip.{pages_of, tree_first, slot_width, page_width}
 use Rattle.bitset.specs.Inner.Words.{members, Below}
+use Rattle.grounds.specs.declared.Ground.{Ground}
+use Rattle.grounds.specs.declared.Ground.TheVariants.{Damage}
 use Rattle.lift.specs.Rows.{record_in, lifts_most}
 use Rattle.skiplist.specs.Skip.{Live}
 use Rattle.sweep.specs.Inner.Swept.{Recorded}
-use Rattle.visit.specs.declared.Closed.{Closed}
 use Rattle.visit.specs.declared.Query.{Query}
-use Rattle.visit.specs.Visit.{closed_rows}
-use Rattle.visit.specs.Inner.Sound.{ClosedSound}
 use Rattle.walk.specs.declared.Cursor.{Cursor}
-use Rattle.walk.specs.declared.Step.{Step}
-use Rattle.walk.specs.declared.Step.TheVariants.{End, Damage, Pass, Visit}
 use Rattle.walk.specs.Inner.Sound.{Sound}
 use Rattle.found.specs.Found.{join_rows}
 use Rattle.found.specs.Inner.Turns.{rows_after}
@@ -34,54 +32,47 @@ pub record Readable (nand page : List ℕ) (t : Turn) : Type 0 where
   pub recorded : Recorded (lifts_of nand t) page t.records
   pub below : Below t.records.count (members t.set.words)
 
--- a segment's turn, its rows being o: none stands for damage
+-- a segment's turn, its rows being o
 pub record AtHand (nand page : List ℕ) (o : Option (List (List ℕ))) (c : Cursor) (t : Turn) : Type 0 where
   pub same_cursor : t.c ≡ c
-  pub ends : t.done ≡ not t.good
-  pub damage : t.good ≡ false → o ≡ none
-  pub rows : t.good ≡ true → o ≡ some (rows_of nand page t)
+  pub rows : o ≡ some (rows_of nand page t)
   pub readable : Readable nand page t
+
+-- damage was met where the rows were looked for: none stands for it
+abbrev pub IsDamage : Option (List (List ℕ)) → Ground → Type 0
+IsDamage o g = (g ≡ Damage) × (o ≡ none)
 
 -- ---- the way on
 
 -- how many turns there may be yet: serials fall
-abbrev pub turns_left : Turn → ℕ
-turns_left t = cond t.done 0 (t.c.before + 1)
+abbrev pub turns_left : Maybe Turn → ℕ
+turns_left None = 0
+turns_left (Some t) = t.c.before + 1
 
 module _ (nand : List ℕ) (slots : ℕ) (live : Live) (q : Query) where
-  -- the next segment that is searched, from a cursor on
-  pub record Onward (c : Cursor) (s : Closed) (d : Cursor) : Type 0 where
-    pub rows : rows_after nand slots live q c ≡ join_rows (rows_after nand slots live q d) (closed_rows nand s q)
-    pub closed : ClosedSound nand s
-    pub sound : Sound slots d
-    pub falls : d.before < c.before
-
-  abbrev pub LeadsOn : Cursor → Step → Type 0
-  LeadsOn c End = rows_after nand slots live q c ≡ some []
-  LeadsOn c Damage = rows_after nand slots live q c ≡ none
-  LeadsOn c (Pass d) = ⊥
-  LeadsOn c (Visit s d) = Onward c s d
-
   module _ (page : List ℕ) where
-    -- the rows at hand and those of the older segments; none stands for damage
-    abbrev pub rows_left : Turn → Option (List (List ℕ))
-    rows_left t =
-        cond t.done (cond t.good (some []) none) (join_rows (rows_after nand slots live q t.c) (some (rows_of nand page t)))
+    -- the rows at hand and those of the older segments, none where no segment is left; none stands for damage
+    abbrev pub rows_left : Maybe Turn → Option (List (List ℕ))
+    rows_left None = some []
+    rows_left (Some t) = join_rows (rows_after nand slots live q t.c) (some (rows_of nand page t))
+
+    -- it can be read, and gone on from
+    abbrev pub CanTurn : Maybe Turn → Type 0
+    CanTurn None = Unit {0}
+    CanTurn (Some t) = Readable nand page t × Sound slots t.c
 
     -- a turn at which the rows left are o, with at most so many turns to come
-    pub record IsTurn (o : Option (List (List ℕ))) (most : ℕ) (t : Turn) : Type 0 where
+    pub record IsTurn (o : Option (List (List ℕ))) (most : ℕ) (t : Maybe Turn) : Type 0 where
       pub rows : rows_left t ≡ o
-      pub readable : t.done ≡ false → Readable nand page t
-      pub sound : t.done ≡ false → Sound slots t.c
+      pub can : CanTurn t
       pub few : turns_left t ≤ most
 
     -- of all rows o, the newer ones have had their turn
-    pub record Through (o : Option (List (List ℕ))) (top : ℕ) (t : Turn) (newer : List (List ℕ)) : Type 0 where
+    pub record Through (o : Option (List (List ℕ))) (top : ℕ) (t : Maybe Turn) (newer : List (List ℕ)) : Type 0 where
       pub rows : o ≡ join_rows (rows_left t) (some newer)
-      pub readable : t.done ≡ false → Readable nand page t
-      pub sound : t.done ≡ false → Sound slots t.c
+      pub can : CanTurn t
       pub room : length newer + lifts_most * turns_left t ≤ lifts_most * top
 
   -- the same whatever stands in the page buffer: a closed segment has no record there
-  abbrev pub IsClosedTurn : Option (List (List ℕ)) → ℕ → Turn → Type 0
+  abbrev pub IsClosedTurn : Option (List (List ℕ)) → ℕ → Maybe Turn → Type 0
   IsClosedTurn o most t = (page : List ℕ) → length page ≡ page_width → IsTurn page o most t

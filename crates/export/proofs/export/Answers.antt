@@ -1,30 +1,8 @@
 -- `export`: what `export_from` gives of the state's own log and page.
-use mathlib.Core.Path.{◌≡◌, refl, sym, ap₂, ◌∙◌}
-use lib.ListN.{length}
-use mir.Syntax.{w32}
-use mir.ValLaws.{to_z-of_z}
-use Rattle.store.specs.World.{world}
 use Rattle.questions.proofs.Asked.{log_sound}
-use Rattle.export.specs.Call.{export_outcome}
-use borrow.Author.Rules.{rules}
 use Rattle.export.proofs.export.Goals as goal
 
-pub slice_bounds-export_from-end : goal.slice_bounds-export_from-end
-slice_bounds-export_from-end c =
-    let page-long : length c.args.s.page ≡ 512 = search rules in
-    sym page-long
-
-pub export_from-requires : goal.export_from-requires
-export_from-requires c =
-    let page-long : length c.args.s.page ≡ 512 = search rules in
+pub export_from-requires-clause-log_sound : goal.export_from-requires-clause-log_sound
+export_from-requires-clause-log_sound c =
     let a = c.args in
-    record {
-      log_sound = λ z. log_sound a.nand.now a.nor.now a.s a.slots _ c.ground-n.ensures z _ c.log_of-g.ensures;
-      page_len = page-long;
-    }
-
-pub returns : goal.returns
-returns c =
-    c.export_from.ensures c.args.s c.args.slots c.ground-n.ensures c.log_of-g.ensures refl
-    ∙ ap₂ (λ k1 k2. export_outcome (world c.args.nand.now c.args.nor.now c.args.s) c.args.slots c.args.t1 c.args.t2 k1 k2 c.args.area.now)
-    (to_z-of_z w32 c.args.k1 c.ranges.k1) (to_z-of_z w32 c.args.k2 c.ranges.k2)
+    λ z. log_sound a.nand.now a.nor.now a.s a.slots _ c.ground-judged.ensures z _ c.log_of-g.ensures

@@ -1,13 +1,13 @@
 -- The text of rows counted in bytes, and the answer as the code has it. Assumes nothing.
-use Rattle.std.specs.Prelude.{◌≡◌, true, false, List, map, ℕ, ◌+◌, length}
+use Rattle.std.specs.Prelude.{◌≡◌, List, map, ℕ, ◌+◌, length, Result, Ok, Err}
 use Rattle.std.proofs.Math.Option.{Option, none, some}
 use Rattle.codec.specs.Area.{splice}
 use Rattle.lift.specs.Rows.{record_in}
 use Rattle.lift_text.specs.Text.{told_in, lines_text}
 use Rattle.bitset.specs.Inner.Words.{members}
-use Rattle.export.specs.declared.pieces.Sized.{Sized}
-use Rattle.export.specs.declared.pieces.Exported.{Exported}
-use Rattle.export.specs.Answers.{ExportAnswer}
+use Rattle.grounds.specs.declared.Ground.{Ground}
+use Rattle.grounds.specs.Numbers.{number_of}
+use Rattle.export.specs.Answers.{ExportAnswer, refused_export}
 
 -- rows as lines
 abbrev pub row_lines : List (List ℕ) → List ℕ
@@ -17,14 +17,11 @@ row_lines rows = lines_text (map told_in rows)
 abbrev pub set_lines : List ℕ → List ℕ → ℕ → List ℕ → List ℕ
 set_lines lifts tail first words = row_lines (map (record_in lifts tail first) (members words))
 
--- so many bytes; none stands for damage
-pub record SizedRows (rows : List (List ℕ)) (n : Sized) : Type 0 where
-  pub good : n.good ≡ true
-  pub bytes : n.bytes ≡ length (row_lines rows)
-
-abbrev pub SizeIs : Option (List (List ℕ)) → Sized → Type 0
-SizeIs none n = n.good ≡ false
-SizeIs (some rows) n = SizedRows rows n
+-- so many bytes, without damage
+pub record SizeIs (o : Option (List (List ℕ))) (n : ℕ) : Type 0 where
+  pub rows : List (List ℕ)
+  pub are : o ≡ some rows
+  pub bytes : n ≡ length (row_lines rows)
 
 -- 65 bytes for each of at most 320 lifts
 abbrev pub segment_most : ℕ
@@ -41,5 +38,6 @@ lines_from area none = area
 lines_from area (some rows) = splice area 18 (row_lines rows)
 
 -- what a piece of the call hands back, with the area after it
-abbrev pub answered : Exported → List ℕ → ExportAnswer
-answered r area = record { number = r.number; long = r.long; area = area }
+abbrev pub answered : Result ℕ Ground → List ℕ → ExportAnswer
+answered (Ok long) area = record { number = 0; long = long; area = area }
+answered (Err g) area = refused_export (number_of g) area

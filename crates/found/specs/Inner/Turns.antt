@@ -1,19 +1,25 @@
 -- The turns of the loops that count: rows counted segment by segment, the newest first. Assumes nothing.
-use Rattle.std.specs.Prelude.{◌≡◌, true, false, cond, List, [], ℕ, ◌+◌, ◌^◌, ◌≤◌, ◌<◌, length}
+use Rattle.std.specs.Prelude as Std
+use Rattle.std.specs.Prelude.{◌≡◌, cond, List, [], ℕ, ◌+◌, ◌<◌, ◌≤◌, length, Some, None, Result, Ok, Err}
 use Rattle.std.proofs.Math.Option.{Option, none, some}
 use Rattle.bitset.specs.Inner.Words.{members}
 use Rattle.skiplist.specs.Skip.{Live}
+use Rattle.grounds.specs.declared.Ground.{Ground}
+use Rattle.grounds.specs.declared.Ground.TheVariants as Grounds
 use Rattle.sweep.specs.declared.Sweep.{Sweep}
+use Rattle.visit.specs.declared.Closed.{Closed}
 use Rattle.visit.specs.declared.Log.{Log}
 use Rattle.visit.specs.declared.Query.{Query}
-use Rattle.visit.specs.Visit.{open_rows}
+use Rattle.visit.specs.Visit.{closed_rows, open_rows}
+use Rattle.visit.specs.Inner.Sound.{ClosedSound}
 use Rattle.walk.specs.declared.Cursor.{Cursor}
+use Rattle.walk.specs.declared.Step.TheVariants.{End, Damage, Pass, Visit}
+use Rattle.walk.specs.Advance.{advance_of}
 use Rattle.walk.specs.Inner.Sound.{Sound}
 use Rattle.found.specs.declared.Counted.{Counted}
-use Rattle.found.specs.declared.Counting.{Counting}
 use Rattle.found.specs.declared.Pages.{Pages}
 use Rattle.found.specs.Found.{join_rows, rows_from, closed_found}
-use Rattle.found.specs.Pages.{Read, read_from, bloom_sum, tree_sum, no_pages}
+use Rattle.found.specs.Pages.{Read, bloom_at, read_from, bloom_sum, tree_sum}
 
 -- the rows of the closed segments from a cursor on
 unfoldable pub rows_after : List ℕ → ℕ → Live → Query → Cursor → Option (List (List ℕ))
@@ -30,19 +36,14 @@ all_rows nand nor page g live q c = join_rows (closed_found nand g live q c) (op
 
 -- ---- counting
 
--- damage
-abbrev pub nothing_counted : Counted
-nothing_counted = record { good = false; total = 0; pages = no_pages }
-
--- so many lifts and the rows, with so many pages read
-abbrev pub count_of : ℕ → Pages → Option (List (List ℕ)) → Counted
-count_of total pages none = nothing_counted
-count_of total pages (some rows) = record { good = true; total = total + length rows; pages = pages }
+-- so many lifts and the rows, with so many pages read; none stands for damage
+abbrev pub count_of : ℕ → Pages → Option (List (List ℕ)) → Std.Option Counted
+count_of total pages none = None
+count_of total pages (some rows) = Some (record { total = total + length rows; pages = pages })
 
 -- a count with the matches of a segment
-abbrev pub counted_with : ℕ → Pages → Sweep → Counted
-counted_with total pages m =
-    cond m.good (record { good = true; total = total + length (members m.set.words); pages = pages }) nothing_counted
+abbrev pub counted_with : ℕ → Pages → Sweep → Std.Option Counted
+counted_with total pages m = cond m.good (Some (record { total = total + length (members m.set.words); pages = pages })) None
 
 -- ---- pages
 
@@ -63,28 +64,33 @@ all_pages nand g live q c moves =
     let rs = read_from (g.current + 1) nand g.slots live q c in
     record { headers = moves; bloom = bloom_sum rs; tree = tree_sum rs }
 
--- room for one segment more
-pub record Fits (n : Counted) : Type 0 where
-  pub lifts : n.total + 320 < 2 ^ 64
-  pub bloom : n.pages.bloom + 255 < 2 ^ 64
-  pub tree : n.pages.tree + 64 < 2 ^ 64
-
 module _ (nand : List ℕ) (slots : ℕ) (live : Live) (q : Query) where
+  -- the Bloom pages that hold a bit tried in the segment that a cursor leads to; none at the end and at damage
+  abbrev pub bloom_on : Cursor → ℕ
+  bloom_on c =
+      elim (advance_of nand slots live q c) [
+        | End ↦ 0
+        | Damage ↦ 0
+        | Pass d ↦ bloom_at nand slots live q c
+        | Visit s d ↦ bloom_at nand slots live q c
+      ]
+
   -- a count, with the closed segments from a cursor on
-  abbrev pub count_after : Counted → Cursor → Counted
+  abbrev pub count_after : Counted → Cursor → Std.Option Counted
   count_after n c =
       count_of n.total (with_read n.pages (read_after nand slots live q c)) (rows_after nand slots live q c)
 
-  -- what a count comes to
-  abbrev pub count_left : Counting → Counted
-  count_left r = cond r.done r.n (count_after r.n r.c)
+  -- the next segment that is searched, from a cursor on; the walk went on to it from where it stood, and serials fall
+  pub record Onward (c : Cursor) (s : Closed) (d : Cursor) : Type 0 where
+    pub stood : Cursor
+    pub stood_low : stood.before ≤ c.before
+    pub steps : advance_of nand slots live q stood ≡ Visit s d
+    pub rows : rows_after nand slots live q c ≡ join_rows (rows_after nand slots live q d) (closed_rows nand s q)
+    pub closed : ClosedSound nand s
+    pub sound : Sound slots d
+    pub falls : d.before < c.before
 
-  -- one segment on: it comes to the same, and goes on with a serial that falls
-  pub record CountsOn (r next : Counting) : Type 0 where
-    pub leads : count_left next ≡ count_left r
-    pub good : next.done ≡ false → next.n.good ≡ true
-    pub sound : next.done ≡ false → Sound slots next.c
-    pub falls : next.done ≡ false → next.c.before < r.c.before
-    pub most : next.n.total ≤ r.n.total + 320
-    pub bloom_most : next.n.pages.bloom ≤ r.n.pages.bloom + 255
-    pub tree_most : next.n.pages.tree ≤ r.n.pages.tree + 64
+  abbrev pub LeadsOn : Cursor → Result (Std.Option (Closed × Cursor)) Ground → Type 0
+  LeadsOn c (Err g) = (g ≡ Grounds.Damage) × (rows_after nand slots live q c ≡ none)
+  LeadsOn c (Ok None) = rows_after nand slots live q c ≡ some []
+  LeadsOn c (Ok (Some (s, d))) = Onward c s d

@@ -1,13 +1,22 @@
 -- `grow::child_for` meets its contract.
 use native.Mathlib.Omega.{arith}
-use Rattle.grow.proofs.Stops.{child_whole, child_left, child_right}
+use Rattle.grow.proofs.Stops.{child_whole, child_none, child_some}
 use Rattle.grow.proofs.child_for.Goals as goal
+use Rattle.grow.proofs.child_for.Goals.{then-code-mid, else-code-mid}
 
 pub returns-then-mid : goal.returns-then-mid
 returns-then-mid c m s = child_whole _ m s _ c.if-mid.true
 
-pub returns-then-code-mid : goal.returns-then-code-mid
-returns-then-code-mid c m s = child_left _ m s _ c.if-mid.false (omega arith)
+pub returns-then-child : goal.returns-then-child
+returns-then-child c m s =
+    child_none _ m s _ c.if-mid.false _
+    (λ l. elim c.if-code-mid.branch [ then-code-mid w ↦ w.child-is | else-code-mid w ↦ absurd (omega arith) ])
+    (λ l. elim c.if-code-mid.branch [ then-code-mid w ↦ absurd (omega arith) | else-code-mid w ↦ w.child-is ])
+    c.if-child.true
 
-pub returns : goal.returns
-returns c m s = child_right _ m s _ c.if-mid.false (omega arith)
+pub returns-else-child : goal.returns-else-child
+returns-else-child c m s =
+    child_some _ m s _ c.if-mid.false _
+    (λ l. elim c.if-code-mid.branch [ then-code-mid w ↦ w.child-is | else-code-mid w ↦ absurd (omega arith) ])
+    (λ l. elim c.if-code-mid.branch [ then-code-mid w ↦ absurd (omega arith) | else-code-mid w ↦ w.child-is ])
+    c.if-child.false

@@ -4,5 +4,4 @@ use Rattle.grow.proofs.clear.Goals as goal
 
 pub returns : goal.returns
 unfolding all_clear
-returns c =
-    rw (c.is_clear-a.ensures, c.is_clear-b.ensures, c.is_clear-c.ensures, c.is_clear-d.ensures)
+returns c = rw (c.is_clear-4.ensures, c.is_clear-3.ensures, c.is_clear-2.ensures, c.is_clear.ensures)

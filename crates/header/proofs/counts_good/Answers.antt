@@ -6,5 +6,5 @@ use Rattle.header.proofs.counts_good.Goals as goal
 pub returns-then-count-lt1 : goal.returns-then-count-lt1
 returns-then-count-lt1 c = counts_none _ _ _ _ c.if-count-lt1.true
 
-pub returns : goal.returns
-returns c = counts_some _ _ _ _ _ _ (omega arith) c.sections_of-s.ensures c.fragment_of-l.ensures
+pub returns-else-count-lt1 : goal.returns-else-count-lt1
+returns-else-count-lt1 c = counts_some _ _ _ _ _ _ (omega arith) c.sections_of-s.ensures c.fragment_of-l.ensures

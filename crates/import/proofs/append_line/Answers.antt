@@ -1,22 +1,13 @@
--- `import::append_line` meets its contract: a bad record's number, or the append.
+-- `import::append_line` meets its contract: the append of what it tells.
 use mathlib.Core.Path.{◌≡◌, ap, ◌∙◌}
 use lib.IntN.{ℤ}
 use mir.Syntax.{w32, w64}
 use mir.Val.{to_z, of_z}
-use borrow.Author.Tests.{not-true, not-false}
 use Rattle.store.specs.World.{world}
 use Rattle.store.specs.Calls.{append_outcome}
-use Rattle.store.specs.Inner.Pieces.{bounds_ground}
 use Rattle.import.proofs.Appends.{append_told_lem}
 use borrow.Author.Rules.{rules}
-use mathlib.Core.Bool.{not}
 use Rattle.import.proofs.append_line.Goals as goal
-
-pub returns-then-not-good : goal.returns-then-not-good
-unfolding bounds_ground
-returns-then-not-good c =
-    let a = c.args in
-    rw (not-true a.l.good (ap not c.if-not-good.true), c.bad_number.ensures, c.ground-n.ensures)
 
 pub returns : goal.returns
 returns c =
@@ -25,7 +16,6 @@ returns c =
     let a = c.args in
     let w = world a.nand.now a.nor.now a.s in
     let f = rw load_is at c.fitted-load.ensures in
-    rw (not-false a.l.good (ap not c.if-not-good.false))
     (c.append.ensures
     ∙ ap (λ (z : ℤ). append_outcome w a.slots a.l.time z c.note_of-note.result) passed
     ∙ append_told_lem w a.slots a.l.time a.l.load c.fitted-load.result a.l.member c.note_of-note.result f

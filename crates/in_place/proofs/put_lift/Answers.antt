@@ -18,21 +18,21 @@ put_record-requires c = omega (arith, c.requires.b_len)
 
 pub flush_page-requires : goal.flush_page-requires
 flush_page-requires c = (
-  c.put_record.auto.b ∙ c.requires.b_len.0,
+  c.put_record.auto.s ∙ c.requires.b_len.0,
   c.requires.slot_width_in_bounds.0,
   omega (arith, c.get_u16-n.ensures, c.requires.b_len.1),
 )
 
 pub note_at-requires : goal.note_at-requires
 note_at-requires c = (
-  omega (arith, c.flush_page.auto.b, c.put_record.auto.b, c.requires.b_len.0),
+  omega (arith, c.flush_page.auto.b, c.put_record.auto.s, c.requires.b_len.0),
   c.requires.b_len.2,
 )
 
 pub flush_section-requires : goal.flush_section-requires
 flush_section-requires c = (
   c.note_at.auto.s ∙ c.flush_page.auto.b
-      ∙ c.put_record.auto.b ∙ c.requires.b_len.0,
+      ∙ c.put_record.auto.s ∙ c.requires.b_len.0,
   c.requires.slot_width_in_bounds.1,
   omega (arith, c.get_u16-n.ensures, c.requires.b_len.1),
 )
@@ -40,7 +40,7 @@ flush_section-requires c = (
 pub put_rest-requires : goal.put_rest-requires
 put_rest-requires c =
     c.flush_section.auto.b ∙ c.note_at.auto.s ∙ c.flush_page.auto.b
-    ∙ c.put_record.auto.b ∙ c.requires.b_len.0
+    ∙ c.put_record.auto.s ∙ c.requires.b_len.0
 
 pub returns : goal.returns
 returns c =

@@ -12,10 +12,10 @@ returns c = λ buckets page section.
     let n = c.get_u16-count in
     let l = c.load_at-low in
     let h = c.load_at-high in
-    let low = c.low_after-lowest in
-    let high = c.high_after-highest in
+    let low = c.low_after in
+    let high = c.high_after in
     span_made _ _ c.args.load buckets page section n.result _ _ l.result h.result _ _ n.ensures c.get_u64-start.ensures
-    l.ensures h.ensures c.start_after-first.ensures
+    l.ensures h.ensures c.start_after.ensures
     (to_z-of_z w32 low.result (record { sfits = low.type_inv }) ∙ low.ensures
     ∙ ap₂ (low_with n.result) (to_z-of_z w32 l.result (record { sfits = l.type_inv })) load)
     (to_z-of_z w32 high.result (record { sfits = high.type_inv }) ∙ high.ensures

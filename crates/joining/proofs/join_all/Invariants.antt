@@ -1,11 +1,7 @@
 -- `joining::join_all` meets its contract: segment by segment of the first log.
-use Prim.Native.Nat.{◌+◌, ◌-◌}
 use Rattle.joining.proofs.Logs.{LogGoes}
 use Rattle.joining.proofs.join_all.Given as goal
 
 abbrev pub invariant-loop-i : goal.invariant-loop-i
 invariant-loop-i l =
-    LogGoes l.nand1 l.nor1 l.page1 l.g1 l.q l.way1 l.low1 l.nand2 l.page2 l.g2 l.way2 l.rising l.rows l.initial.free l.initial.area (record { from = l.low2; count = 0 }) l.free l.area l.j l.i
-
-abbrev pub decreases-loop-i : goal.decreases-loop-i
-decreases-loop-i l = l.g1.slots + 1 - l.i
+    LogGoes l.nand1 l.nor1 l.page1 l.g1 l.q l.way1 l.fn.low1 l.nand2 l.page2 l.g2 l.way2 l.rising l.rows l.initial.free l.initial.area (record { from = l.fn.low2; count = 0 }) l.free l.area l.j l.i

@@ -1,94 +1,48 @@
 -- `joining::join_lift` meets its contract: the lift stands alone, or takes the first free one that fits.
-use mathlib.Core.Path.{◌≡◌, sym, ◌∙◌}
-use native.Mathlib.Omega.{arith}
+use mathlib.Core.Path.{◌≡◌, refl, sym, ◌∙◌}
 use Rattle.lift.specs.Record.{member_at}
 use Rattle.lift.specs.Rows.{record_in}
 use Rattle.lift.proofs.Rows.{time_of_record, member_of_record}
-use Rattle.visit.proofs.Emptying.{recorded_at}
-use Rattle.whole_log.specs.Inner.Held.{records_at}
 use Rattle.joining.specs.declared.look.Sought.{Sought}
 use Rattle.joining.specs.Inner.Passing.{sought_for}
-use Rattle.joining.proofs.Lifts.{readable_on, lift_nobody, lift_alone, lift_joined}
+use Rattle.joining.proofs.Lifts.{lift_nobody, lift_alone, lift_joined}
+use Rattle.joining.proofs.join_lift.Goals.{After-member_in-member, After-time_in-time}
 use Rattle.joining.proofs.join_lift.Goals as goal
+
+member_is : (c : After-member_in-member) → let a = c.args in
+    member_at (record_in a.lifts.now a.tail.now a.first a.p) 0 ≡ c.member_in-member.result
+member_is c =
+    let a = c.args in
+    member_of_record a.lifts.now a.tail.now a.first a.p c.requires.p_in_bounds.0 c.requires.p_in_bounds.1 ∙ sym c.member_in-member.ensures
+
+-- what is sought
+sought : (c : After-time_in-time) → let a = c.args in
+    ◌≡◌ {A = Sought} (record { time = c.time_in-time.result; member = c.member_in-member.result; rising = a.rising })
+    (sought_for a.rising (record_in a.lifts.now a.tail.now a.first a.p))
+sought c =
+    let a = c.args in
+    let p = c.requires.p_in_bounds in
+    rw (
+      member_of_record a.lifts.now a.tail.now a.first a.p p.0 p.1,
+      time_of_record a.lifts.now a.tail.now a.first a.p p.0 p.1,
+      ← c.time_in-time.ensures,
+      ← c.member_in-member.ensures,
+    )
 
 pub returns-then-is_nobody : goal.returns-then-is_nobody
 returns-then-is_nobody c =
-    let member_is : let a = c.args in
-    member_at (record_in a.lifts.now a.tail.now a.first a.p) 0 ≡ c.member_in-member.result = member_of_record c.args.lifts.now c.args.tail.now c.args.first c.args.p c.requires.p_in_bounds.0 c.requires.p_in_bounds.1 ∙ sym
-    c.member_in-member.ensures in
-    lift_nobody _ _ _ _ _ _ _ _ _ _ (member_is ∙ c.if-is_nobody.true) c.requires.readable_from
+    lift_nobody _ _ _ _ _ _ _ _ _ _ (member_is (goal.at.returns-then-is_nobody c).After-member_in-member ∙ c.if-is_nobody.true)
+    c.requires.readable_from
 
-pub take-k-requires : goal.take-k-requires
-take-k-requires c =
-    let f = c.first_left-from.ensures in
-    record {
-      room = c.requires.room;
-      readable_from = readable_on _ _ _ _ _ _ _ c.requires.readable_from f.0 f.1;
-    }
-
-pub returns-then-not-found : goal.returns-then-not-found
-returns-then-not-found c =
-    let member_is : let a = c.args in
-    member_at (record_in a.lifts.now a.tail.now a.first a.p) 0 ≡ c.member_in-member.result = member_of_record c.args.lifts.now c.args.tail.now c.args.first c.args.p c.requires.p_in_bounds.0 c.requires.p_in_bounds.1 ∙ sym
-    c.member_in-member.ensures in
-    let sought : let a = c.args in
-    ◌≡◌ {A = Sought} (record { time = c.time_in-time.result; member = c.member_in-member.result; rising = a.rising })
-    (sought_for a.rising (record_in a.lifts.now a.tail.now a.first a.p)) = rw (
-      member_is,
-      time_of_record c.args.lifts.now c.args.tail.now c.args.first c.args.p c.requires.p_in_bounds.0
-          c.requires.p_in_bounds.1,
-      ← c.time_in-time.ensures,
-    ) in
-    let named : let a = c.args in member_at (record_in a.lifts.now a.tail.now a.first a.p) 0 ≡ 0 → ⊥ = λ e. c.if-is_nobody.false (sym member_is ∙ e) in
-    lift_alone _ _ _ _ _ _ _ named _ sought _ _ _ _ (c.first_left-from.ensures.2 _) _ c.take-k.ensures _ _
-    c.if-not-found.true
-
-pub offset_bounds-way-i : goal.offset_bounds-way-i
-offset_bounds-way-i c =
-    omega (arith, c.take-k.ensures.segment_most_lem c.if-not-found.false, c.requires.room.0.slots_most_lem)
-
-pub bounds-way-i : goal.bounds-way-i
-bounds-way-i c =
-    omega (arith, c.take-k.ensures.segment_most_lem c.if-not-found.false, c.requires.room.0.ways)
-
-pub lifts_of-lifts2-requires : goal.lifts_of-lifts2-requires
-lifts_of-lifts2-requires c =
-    let e = c.take-k.ensures in
-    let f = c.if-not-found.false in
-    (e.readable.each _ (e.segment_least f) (e.segment_most_lem f)).inside
-
-pub records_of-at-requires : goal.records_of-at-requires
-records_of-at-requires c = omega (arith, c.requires.room.0.slots_most_lem)
-
-pub put_pair-requires : goal.put_pair-requires
-put_pair-requires c =
-    let e = c.take-k.ensures in
-    let f = c.if-not-found.false in
-    let r = (e.readable.each _ (e.segment_least f) (e.segment_most_lem f)).recorded in
-    let a = recorded_at _ _ (records_at c.args.g c.take-k.result.segment) c.take-k.result.at r (e.below f) in
-    record {
-      p1_in_bounds = c.requires.p_in_bounds;
-      p2_in_bounds = rw (c.lifts_of-lifts2.ensures, c.records_of-at.ensures) a;
-      rows_in_bounds = c.requires.rows_in_bounds.0;
-    }
-
-pub overflow_add-result : goal.overflow_add-result
-overflow_add-result c = omega (arith, c.requires.rows_in_bounds.1)
+pub returns-in_default : goal.returns-in_default
+returns-in_default c =
+    let m = member_is (goal.at.returns-in_default c).After-member_in-member in
+    lift_alone _ _ _ _ _ _ _ (λ e. c.if-is_nobody.false (sym m ∙ e)) _ (sought (goal.at.returns-in_default c).After-time_in-time) _ _ _ _
+    (c.first_left-from.ensures.2 _) _ c.in_default.ensures _ _ refl
 
 pub returns : goal.returns
 returns c =
-    let member_is : let a = c.args in
-    member_at (record_in a.lifts.now a.tail.now a.first a.p) 0 ≡ c.member_in-member.result = member_of_record c.args.lifts.now c.args.tail.now c.args.first c.args.p c.requires.p_in_bounds.0 c.requires.p_in_bounds.1 ∙ sym
-    c.member_in-member.ensures in
-    let sought : let a = c.args in
-    ◌≡◌ {A = Sought} (record { time = c.time_in-time.result; member = c.member_in-member.result; rising = a.rising })
-    (sought_for a.rising (record_in a.lifts.now a.tail.now a.first a.p)) = rw (
-      member_is,
-      time_of_record c.args.lifts.now c.args.tail.now c.args.first c.args.p c.requires.p_in_bounds.0
-          c.requires.p_in_bounds.1,
-      ← c.time_in-time.ensures,
-    ) in
-    let named : let a = c.args in member_at (record_in a.lifts.now a.tail.now a.first a.p) 0 ≡ 0 → ⊥ = λ e. c.if-is_nobody.false (sym member_is ∙ e) in
-    lift_joined _ _ _ _ _ _ _ named _ sought _ _ _ _ (c.first_left-from.ensures.2 _) _ c.take-k.ensures _ _ _
-    c.if-not-found.false
+    let m = member_is (goal.at.returns c).After-member_in-member in
+    lift_joined _ _ _ _ _ _ _ (λ e. c.if-is_nobody.false (sym m ∙ e)) _ (sought (goal.at.returns c).After-time_in-time) _ _ _ _
+    (c.first_left-from.ensures.2 _) _ c.in-Some.ensures _ _ _ _ refl
     (rw (c.lifts_of-lifts2.ensures, c.records_of-at.ensures) at c.put_pair.ensures)

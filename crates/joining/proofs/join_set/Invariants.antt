@@ -1,13 +1,11 @@
--- `joining::join_set` meets its contract: the lifts gone through and those of the rest come to all.
-use lib.ListN.{length}
+-- `joining::join_set` meets its contract: the lifts gone through and those of the places left come to all.
 use Rattle.bitset.specs.Inner.Words.{members}
+use Rattle.bitset.specs.Inner.Emptying.{places_left}
 use Rattle.lift.specs.Rows.{record_in}
 use Rattle.joining.proofs.Lifts.{SetGoes}
 use Rattle.joining.proofs.join_set.Given as goal
 
-abbrev pub invariant-loop-at : goal.invariant-loop-at
-invariant-loop-at l =
-    SetGoes l.nand l.page l.g l.way l.rising l.rows (record_in l.lifts l.tail l.at.first) l.at.count l.initial.free l.initial.area l.initial.j l.initial.rest l.free l.area l.j l.rest
-
-abbrev pub decreases-loop-at : goal.decreases-loop-at
-decreases-loop-at l = length (members l.rest.words)
+abbrev pub invariant-loop-p : goal.invariant-loop-p
+invariant-loop-p l =
+    SetGoes l.nand l.page l.g l.way l.rising l.rows (record_in l.lifts l.tail l.at.first) l.at.count l.initial.free l.initial.area l.initial.j
+    (members l.fn.set.words) l.free l.area l.j (places_left l.p-iterator)

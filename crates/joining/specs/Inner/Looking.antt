@@ -1,13 +1,16 @@
 -- A look for the first free lift that fits, as the code goes about it: it stops at a lift that is too late, and leaves out those that can
 -- be joined no more, where times never fall. Assumes nothing.
-use Rattle.std.specs.Prelude.{◌≡◌, Bool, true, false, cond, List, [], ◌∷◌, ◌++◌, ℕ, ◌-◌, ◌<◌, eqb, leb, ltb, length}
+use Rattle.std.specs.Prelude.{◌≡◌, Bool, true, false, cond, List, [], ◌∷◌, ◌++◌, ℕ, ◌-◌, eqb, leb, ltb}
 use Rattle.std.proofs.Math.Option.{Option, none, some}
-use Rattle.bitset.specs.Inner.Words.{members, Below}
+use Rattle.bitset.specs.declared.Bits.{Bits}
+use Rattle.bitset.specs.Inner.Words.{members}
 use Rattle.lift.specs.Record.{time_at, member_at}
 use Rattle.lift.specs.Rows.{time_in, member_in}
 use Rattle.joining.specs.declared.look.Fit.{Fit}
 use Rattle.joining.specs.declared.look.Fit.TheVariants.{Behind, Ahead, Joins, Other}
-use Rattle.joining.specs.declared.look.Looking.{Looking}
+use Rattle.joining.specs.declared.look.End.{End}
+use Rattle.joining.specs.declared.look.End.TheVariants.{Found, Late, Through}
+use Rattle.joining.specs.declared.look.Look.{Look}
 use Rattle.joining.specs.declared.look.Sought.{Sought}
 
 -- "later by 1 to 30,000 ms"
@@ -65,32 +68,28 @@ module _ {A : Type 0} (rising : Bool) (fit : A → Fit) where
 
 -- ---- through the places of one set
 
-abbrev pub taken_at : Bool → ℕ → Option ℕ
-taken_at true p = some p
-taken_at false p = none
+-- what was taken, and whether the look ends there
+abbrev pub taken_at : End → Option ℕ
+taken_at (Found p) = some p
+taken_at Late = none
+taken_at Through = none
 
--- some places that stay free were looked at, the rest is not yet
-pub record Splits (k : Looking) : Type 0 where
-  pub kept : List ℕ
-  pub are : members k.left.words ≡ kept ++ members k.rest.words
+abbrev pub ends_at : End → Bool
+ends_at (Found p) = true
+ends_at Late = true
+ends_at Through = false
 
-module _ (rising : Bool) (fit : ℕ → Fit) where
-  -- on the way: what the look comes to
-  pub record Looks (left : List ℕ) (taken : Option ℕ) (last : Bool) (k : Looking) : Type 0 where
-    pub splits : Splits k
-    pub left_is : splits.kept ++ left_of rising fit (members k.rest.words) ≡ left
-    pub taken_is : taken_of rising fit (members k.rest.words) ≡ taken
-    pub last_is : ends rising fit (members k.rest.words) ≡ last
+module _ (rising : Bool) (fit : ℕ → Fit) (left : List ℕ) (taken : Option ℕ) (last : Bool) where
+  -- on the way: some places that stay free were looked at, the rest is not yet; what the look comes to
+  pub record Looks (free : Bits) (rest : List ℕ) : Type 0 where
+    pub kept : List ℕ
+    pub are : members free.words ≡ kept ++ rest
+    pub left_is : kept ++ left_of rising fit rest ≡ left
+    pub taken_is : taken_of rising fit rest ≡ taken
+    pub last_is : ends rising fit rest ≡ last
 
   -- over
-  pub record Looked (left : List ℕ) (taken : Option ℕ) (last : Bool) (k : Looking) : Type 0 where
+  pub record Looked (k : Look) : Type 0 where
     pub left_is : members k.left.words ≡ left
-    pub taken_is : taken_at k.found k.at ≡ taken
-    pub last_is : k.last ≡ last
-
-  -- one place on
-  pub record LooksOn (k next : Looking) : Type 0 where
-    pub on : next.over ≡ false → (left : List ℕ) (taken : Option ℕ) (last : Bool) → Looks left taken last k → Looks left taken last next
-    pub over : next.over ≡ true → (left : List ℕ) (taken : Option ℕ) (last : Bool) → Looks left taken last k → Looked left taken last next
-    pub below : next.over ≡ false → (n : ℕ) → Below n (members k.rest.words) → Below n (members next.rest.words)
-    pub fewer : next.over ≡ false → length (members next.rest.words) < length (members k.rest.words)
+    pub taken_is : taken_at k.end ≡ taken
+    pub last_is : ends_at k.end ≡ last

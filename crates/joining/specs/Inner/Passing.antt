@@ -1,9 +1,11 @@
 -- The pass over the first log, lift by lift: pairs counted, the first of them written, and the lifts of the second log that are free.
 -- Assumes nothing.
-use Rattle.std.specs.Prelude.{◌≡◌, Bool, true, cond, List, [], ◌∷◌, ℕ, ◌+◌, ◌-◌, ◌*◌, ◌≤◌, ◌<◌, eqb, ltb, length, get_or}
+use Rattle.std.specs.Prelude.{◌≡◌, Bool, cond, List, [], ◌∷◌, ℕ, ◌+◌, ◌-◌, ◌*◌, ◌≤◌, ◌<◌, eqb, ltb, length, get_or, IfSome, Some, None}
+use Rattle.std.specs.Prelude.{Option as Maybe}
 use Rattle.std.proofs.Math.Option.{Option, none, some}
 use Rattle.codec.specs.Area.{splice}
 use Rattle.flash.specs.Chip.{slot_width}
+use Rattle.bitset.specs.declared.Bits.{Bits}
 use Rattle.bitset.specs.Inner.Words.{members, Below}
 use Rattle.lift.specs.Record.{time_at, member_at}
 use Rattle.sweep.specs.Inner.Swept.{Recorded}
@@ -57,34 +59,38 @@ join_list rising rows (a ∷ later) s = join_list rising rows later (join_one ri
 -- ---- as the code has it
 
 -- the free lifts from a segment on
-abbrev pub free_from : List ℕ → List ℕ → Log → List ℕ → List ℕ → ℕ → List (List ℕ)
+abbrev pub free_from : List ℕ → List ℕ → Log → List ℕ → List Bits → ℕ → List (List ℕ)
 free_from nand page g way free from = rows_on (row_at nand page g way) (places_in free) from (g.slots + 1 - from)
 
-abbrev pub standing : List ℕ → List ℕ → Log → List ℕ → List ℕ → Joining → List ℕ → Standing
+abbrev pub standing : List ℕ → List ℕ → Log → List ℕ → List Bits → Joining → List ℕ → Standing
 standing nand page g way free j area =
     record { count = j.count; area = area; free = free_from nand page g way free j.from }
 
 -- the segments from one on can be read
-pub record ReadableFrom (nand page : List ℕ) (g : Log) (way free : List ℕ) (from : ℕ) : Type 0 where
+pub record ReadableFrom (nand page : List ℕ) (g : Log) (way : List ℕ) (free : List Bits) (from : ℕ) : Type 0 where
   pub from_most : from ≤ g.slots
   pub each : (i : ℕ) → from ≤ i → i ≤ g.slots → Readable nand page g way free i
 
 -- what is taken
-abbrev pub taken_row : List ℕ → List ℕ → Log → List ℕ → Taken → Option (List ℕ)
-taken_row nand page g way k = cond k.found (some (row_at nand page g way k.segment k.at)) none
+abbrev pub taken_row : List ℕ → List ℕ → Log → List ℕ → Maybe Taken → Option (List ℕ)
+taken_row nand page g way None = none
+taken_row nand page g way (Some k) = some (row_at nand page g way k.segment k.at)
+
+pub record TakenFrom (g : Log) (from : ℕ) (k : Taken) : Type 0 where
+  pub least : from ≤ k.segment
+  pub most : k.segment ≤ g.slots
+  pub below : k.at < (records_at g k.segment).count
 
 -- the first free lift that fits is taken
-pub record Takes (nand page : List ℕ) (g : Log) (way : List ℕ) (s : Sought) (free new : List ℕ) (from : ℕ) (k : Taken) : Type 0 where
+pub record Takes (nand page : List ℕ) (g : Log) (way : List ℕ) (s : Sought) (free new : List Bits) (from : ℕ) (k : Maybe Taken) : Type 0 where
   pub taken_is : taken_row nand page g way k ≡ taken_of s.rising (fit_row s) (free_from nand page g way free from)
   pub left_is : free_from nand page g way new from ≡ left_of s.rising (fit_row s) (free_from nand page g way free from)
   pub readable : ReadableFrom nand page g way new from
-  pub segment_least : k.found ≡ true → from ≤ k.segment
-  pub segment_most_lem : k.found ≡ true → k.segment ≤ g.slots
-  pub below : k.found ≡ true → k.at < (records_at g k.segment).count
+  pub place : IfSome k (TakenFrom g from)
 
 -- some lifts of the first log are gone through
 pub record JoinsOn (nand page : List ℕ) (g : Log) (way : List ℕ) (rising : Bool) (rows : ℕ) (lifts : List (List ℕ))
-    (free area : List ℕ) (j : Joining) (new_free new_area : List ℕ) (next : Joining) : Type 0 where
+    (free : List Bits) (area : List ℕ) (j : Joining) (new_free : List Bits) (new_area : List ℕ) (next : Joining) : Type 0 where
   pub leads : standing nand page g way new_free next new_area ≡ join_list rising rows lifts (standing nand page g way free j area)
   pub readable : ReadableFrom nand page g way new_free next.from
   pub few : next.count ≤ j.count + length lifts
@@ -102,7 +108,7 @@ lent_rows nand nor page g q way low =
     rows_on (row_at nand page g way) (λ i. members (set_for nand nor page g q way i)) low (g.slots + 1 - low)
 
 -- the whole pass
-pub record Joined (nand page : List ℕ) (g : Log) (way : List ℕ) (rising : Bool) (rows : ℕ) (lifts : List (List ℕ)) (free : List ℕ) (low : ℕ)
+pub record Joined (nand page : List ℕ) (g : Log) (way : List ℕ) (rising : Bool) (rows : ℕ) (lifts : List (List ℕ)) (free : List Bits) (low : ℕ)
     (area new_area : List ℕ) (n : ℕ) : Type 0 where
   pub count_is : n ≡ (join_list rising rows lifts (standing nand page g way free (record { from = low; count = 0 }) area)).count
   pub area_is : new_area ≡ (join_list rising rows lifts (standing nand page g way free (record { from = low; count = 0 }) area)).area

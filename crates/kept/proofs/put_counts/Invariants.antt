@@ -1,5 +1,4 @@
 -- `kept::put_counts` meets its contract: in each turn one count more is written.
-use Prim.Native.Nat.{◌-◌}
 use Rattle.codec.specs.Number.{bytes}
 use Rattle.codec.proofs.Numbers.{length_bytes}
 use Rattle.loads.proofs.SideBySide.{Put}
@@ -7,6 +6,3 @@ use Rattle.kept.proofs.put_counts.Given as goal
 
 abbrev pub invariant-loop-i : goal.invariant-loop-i
 invariant-loop-i l = Put (bytes 8) 8 (length_bytes 8) l.initial.answer 0 l.counts l.answer l.i
-
-abbrev pub decreases-loop-i : goal.decreases-loop-i
-decreases-loop-i l = 22 - l.i

@@ -1,5 +1,5 @@
 -- `last_place::last` meets its contract: the last word that is not 0 has the highest place, by its highest bit; the words passed are 0.
-use mathlib.Core.Path.{◌≡◌, refl}
+use mathlib.Core.Path.{◌≡◌}
 use lib.ListN.{length}
 use Rattle.last_place.proofs.LastPlace.{ZerosAfter, after_none, after_more, last_found, last_none}
 use native.Mathlib.Omega.{arith}
@@ -58,4 +58,4 @@ returns c =
     let z2 : ZerosAfter b.words 2 = after_more b.words 2 z3 c.if-d-gt0.false in
     let z1 : ZerosAfter b.words 1 = after_more b.words 1 z2 c.if-c-gt0.false in
     let z0 : ZerosAfter b.words 0 = after_more b.words 0 z1 c.if-b-gt0.false in
-    last_none b _ z0 c.if-a-gt0.false refl
+    last_none b z0 c.if-a-gt0.false

@@ -1,10 +1,15 @@
 -- A set emptied from the highest place down. Assumes nothing.
-use Rattle.std.specs.Prelude.{◌≡◌, true, false, [], ◌∷◌, ◌++◌}
+use Rattle.std.specs.Prelude.{◌≡◌, MatchOption, Option, List, [], ◌∷◌, ◌++◌, ℕ}
 use Rattle.bitset.specs.Inner.Words.{members}
 use Rattle.bitset.specs.declared.Bits.{Bits}
-use Rattle.bitset.specs.declared.Next.{Next}
+use Rattle.last_place.specs.declared.PlacesDown.{PlacesDown}
 
--- none, or the highest place and the set without it
-pub record IsLast (b : Bits) (r : Next) : Type 0 where
-  pub nothing : r.found ≡ false → members b.words ≡ []
-  pub last : r.found ≡ true → members b.words ≡ members r.rest.words ++ (r.at ∷ [])
+-- none where the set is empty, or the highest place and the set without it
+abbrev pub IsLast : Bits → Option (ℕ × Bits) → Type 0
+IsLast b r =
+    MatchOption r (members b.words ≡ [])
+    (λ l. members b.words ≡ members l.1.words ++ (l.0 ∷ []))
+
+-- the places that are still to come, the highest of them next
+abbrev pub places_below : PlacesDown → List ℕ
+places_below s = members s.left.words

@@ -1,12 +1,10 @@
--- `lift::code_in` meets its contract: the test on the place chooses the area.
-use borrow.Author.Tests.{lt-ltb, le-ltb}
-use Rattle.lift.specs.Rows.{code_in}
+-- `lift::code_in` meets its contract: it is read in the record.
+use mathlib.Core.Path.{◌∙◌}
+use Rattle.lift.proofs.Rows.{code_of_record}
 use Rattle.lift.proofs.code_in.Goals as goal
 
-pub returns-then-p-first : goal.returns-then-p-first
-unfolding code_in
-returns-then-p-first c = simp (lt-ltb _ _ c.if-p-first.true) c.record_code.ensures
-
 pub returns : goal.returns
-unfolding code_in
-returns c = simp (le-ltb _ _ c.if-p-first.false) c.record_code-2.ensures
+returns c =
+    let a = c.args in
+    c.record_code.ensures
+    ∙ rw c.record_of.ensures.is (code_of_record a.lifts.now a.tail.now a.first a.p c.requires.0 c.requires.1)

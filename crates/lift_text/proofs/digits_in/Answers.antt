@@ -1,35 +1,10 @@
--- `lift_text::digits_in` meets its contract: four digits more for each division.
-use Prim.Native.Nat.{◌/◌}
-use Rattle.lift_text.proofs.Lines.{four_more}
-use native.Mathlib.Omega.{arith}
+-- `lift_text::digits_in` meets its contract: by the logarithm to base ten.
+use Rattle.std.proofs.Common.{arith}
+use Rattle.lift_text.proofs.Lines.{digits_by_power}
 use Rattle.lift_text.proofs.digits_in.Goals as goal
-
-pub returns-then-a-lt10000 : goal.returns-then-a-lt10000
-returns-then-a-lt10000 c =
-    let v = c.args.v in
-    let one = four_more v (omega arith) in
-    (omega arith, omega arith)
-
-pub returns-then-b-lt10000 : goal.returns-then-b-lt10000
-returns-then-b-lt10000 c =
-    let v = c.args.v in
-    let one = four_more v (omega arith) in
-    let two = four_more (v / 10000) (omega arith) in
-    (omega arith, omega arith)
-
-pub returns-then-c-lt10000 : goal.returns-then-c-lt10000
-returns-then-c-lt10000 c =
-    let v = c.args.v in
-    let one = four_more v (omega arith) in
-    let two = four_more (v / 10000) (omega arith) in
-    let three = four_more (v / 10000 / 10000) (omega arith) in
-    (omega arith, omega arith)
 
 pub returns : goal.returns
 returns c =
-    let v = c.args.v in
-    let one = four_more v (omega arith) in
-    let two = four_more (v / 10000) (omega arith) in
-    let three = four_more (v / 10000 / 10000) (omega arith) in
-    let four = four_more (v / 10000 / 10000 / 10000) (omega arith) in
-    (omega arith, omega arith)
+    let i = c.ilog10.ensures in
+    let n = digits_by_power c.ilog10.result c.args.v (rw c.max.ensures at i.power_le) (rw c.max.ensures at i.next_power_gt) in
+    (omega (arith, c.from.ensures), omega (arith, c.from.ensures, i.bound))

@@ -10,8 +10,8 @@ returns-then-code-lt-CODE_OF_ZERO c =
     c.size_of.ensures in
     (omega arith, omega arith)
 
-pub returns : goal.returns
-returns c =
+pub returns-else-code-lt-CODE_OF_ZERO : goal.returns-else-code-lt-CODE_OF_ZERO
+returns-else-code-lt-CODE_OF_ZERO c =
     let d = c.digits_in-n.ensures in
     let e = from_zero c.args.code c.size_of.result c.if-code-lt-CODE_OF_ZERO.false
     c.size_of.ensures in

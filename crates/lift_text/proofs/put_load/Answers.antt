@@ -36,7 +36,7 @@ returns-then-code-lt-CODE_OF_ZERO c =
     rw (text_below_zero c.args.code z.result c.if-code-lt-CODE_OF_ZERO.true z.ensures)
     (byte_before _ _ _ _ _ _ 45 c.requires.1 e c.put_digits-at.ensures)
 
-pub returns : goal.returns
-returns c =
+pub returns-else-code-lt-CODE_OF_ZERO : goal.returns-else-code-lt-CODE_OF_ZERO
+returns-else-code-lt-CODE_OF_ZERO c =
     let z = c.size_of-size in
     rw (text_from_zero c.args.code z.result c.if-code-lt-CODE_OF_ZERO.false z.ensures) c.put_digits-at.ensures

@@ -1,29 +1,22 @@
--- `lines::field_at` meets its contract. The invariant: what is left to read from here gives what the whole gives. Assumes nothing.
-use mathlib.Core.Path.{refl, ◌∙◌}
-use Prim.Native.Nat.{◌-◌}
-use Rattle.lines.proofs.Reading.{read_step, read_room, read_bound, read_none, read_all}
-use borrow.Author.Rules.{rules}
+-- `lines::field_at` meets its contract, by the turns of the reading.
+use Rattle.std.proofs.Common.{◌≡◌, ◌+◌, ◌-◌, take, drop, ◌∙◌, arith}
+use Rattle.std.proofs.lemmas.List.{length-take, length-drop}
+use Rattle.codec.specs.Area.{part}
+use Rattle.lines.proofs.Reading.{read_next, read_room, read_bound, read_all, columns_are}
 use Rattle.lines.proofs.field_at.Goals as goal
 
-pub loop-left-init : goal.loop-left-init
-loop-left-init c = (search rules, (search rules, (refl, read_none _)))
-
 pub read_on-f-requires : goal.read_on-f-requires
-read_on-f-requires c =
-    read_room _ _ _ c.loop-left-test.true c.requires.1 c.loop-left.invariant.1.1.1
+read_on-f-requires c = read_room c.loop-b.b-index _ c.loop-b.invariant.below (omega arith)
 
-pub loop-left-preserved : goal.loop-left-preserved
-loop-left-preserved c =
-    let t = c.loop-left-test.true in (
-      search rules,
-      (
-        search rules,
-        (
-          rw c.read_on-f.ensures (read_step _ _ _ t c.loop-left.invariant.0 _ ∙ c.loop-left.invariant.1.1.0),
-          rw c.read_on-f.ensures (read_bound _ _ _ _ t c.loop-left.invariant.1.0 c.loop-left.invariant.1.1.1),
-        ),
-      ),
-    )
+pub loop-b-preserved : goal.loop-b-preserved
+loop-b-preserved c = record {
+  rest = rw c.read_on-f.ensures (read_next _ _ c.loop-b.b-index (omega arith) ∙ c.loop-b.invariant.rest);
+  below = rw c.read_on-f.ensures (read_bound _ _ _ c.loop-b.invariant.below);
+}
 
 pub returns : goal.returns
-returns c = read_all _ _ _ _ _ _ c.loop-left-test.false c.loop-left.invariant.1.1.0 c.loop-left.invariant.1.1.1
+returns c =
+    let e : take (c.args.at + c.args.width - c.args.at) (drop c.args.at c.args.s.now) ≡ part c.args.s.now c.args.at c.args.width =
+    columns_are c.args.s.now c.args.at c.args.width c.requires.0 in
+    rw (← e) (read_all _ _ _ _ (simp (length-take, length-drop) (omega arith)) c.loop-b.auto.b-index-end c.loop-b-test.false
+    c.loop-b.invariant.rest c.loop-b.invariant.below)

@@ -16,8 +16,8 @@ pub returns-then-code-lt-CODE_OF_ZERO : goal.returns-then-code-lt-CODE_OF_ZERO
 returns-then-code-lt-CODE_OF_ZERO c =
     plate_is c.args.code 50001 _ (record { small = omega arith; low = λ n. omega arith; high = λ n. omega arith })
 
-pub returns : goal.returns
-returns c =
+pub returns-else-code-lt-CODE_OF_ZERO : goal.returns-else-code-lt-CODE_OF_ZERO
+returns-else-code-lt-CODE_OF_ZERO c =
     let code = c.args.code in
     let l = past_ends code c.if-code-lt-CODE_OF_ZERO.false c.requires in
     plate_is code 50001 _ (record { small = omega arith; low = λ n. omega arith; high = λ n. omega arith })

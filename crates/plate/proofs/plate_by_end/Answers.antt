@@ -1,8 +1,5 @@
 -- `plate::plate_by_end` meets its contract: the load lies up to the end of the near plate or past it, and never past the next one.
-use mathlib.Core.Path.{◌≡◌}
-use Prim.Native.Nat.{◌+◌, ◌/◌}
 use native.Mathlib.Omega.{arith}
-use borrow.Author.Rules.{rules}
 use Rattle.plate.proofs.Bands.{plate_is}
 use Rattle.plate.proofs.plate_by_end.Goals as goal
 use Rattle.plate.proofs.plate_by_end.Goals.{then-end-load, else-end-load}

@@ -1,38 +1,34 @@
 -- What the loops over the retained headers and lift times give, for any chips and any state. Assumes nothing.
-use Rattle.std.specs.Prelude.{Bool, true, false, not, ◌&&◌, ◌||◌, List, [], ◌∷◌, ◌++◌, ℕ, ◌-◌, ◌*◌, ◌/◌, ◌≤◌, ◌<◌, ltb}
+use Rattle.std.specs.Prelude.{Bool, true, ◌&&◌, Option, None, Some, List, [], ◌∷◌, ◌++◌, ℕ, ◌-◌, ◌*◌, ◌/◌, ◌≤◌, ◌<◌, ltb}
 use Rattle.codec.specs.Number.{number_at}
 use Rattle.flash.specs.Chip.{slot_of, pages_of}
-use Rattle.form.specs.declared.Form.{Form}
 use Rattle.carry.specs.declared.Serials.{Serials}
 use Rattle.carry.specs.Carried.{header_of}
-use Rattle.retained.specs.declared.headers.Sought.{Sought}
-use Rattle.retained.specs.declared.headers.Sought.TheVariants.{OtherForm, Damage, LatePointer}
 use Rattle.retained.specs.declared.times.Rise.{Rise}
-use Rattle.retained.specs.Retained.{any_from, is_form, is_damaged, has_late, segment_times, times_from}
+use Rattle.retained.specs.Retained.{any_from, segment_times, times_from}
 
 -- ---- headers
 
--- what is sought in the header of serial n
-abbrev pub has : Sought → Form → Serials → ℕ → List ℕ → ℕ → Bool
-has OtherForm f s first nand n = is_form f n (header_of nand s.slots n)
-has Damage f s first nand n = is_damaged f s.slots s.current n (header_of nand s.slots n)
-has LatePointer f s first nand n = has_late s.oldest first n (header_of nand s.slots n)
-
-abbrev pub any_sought : Sought → Form → Serials → ℕ → List ℕ → Bool
-any_sought what f s first nand = any_from (has what f s first nand) (s.current - s.oldest) s.oldest
+-- whether the header of a retained closed serial passes a test, which is given serial and header page
+abbrev pub any_header : (ℕ → List ℕ → Bool) → Serials → List ℕ → Bool
+any_header has s nand = any_from (λ n. has n (header_of nand s.slots n)) (s.current - s.oldest) s.oldest
 
 -- ---- times
 
 -- one time more, and a list of them
+abbrev pub is_later : Option ℕ → ℕ → Bool
+is_later None t = true
+is_later (Some u) t = ltb u t
+
 unfoldable pub rise_with : Rise → ℕ → Rise
-rise_with r t = record { rising = r.rising && (not r.any || ltb r.last t); any = true; last = t }
+rise_with r t = record { rising = r.rising && is_later r.last t; last = Some t }
 
 unfoldable pub rise_over : Rise → List ℕ → Rise
 rise_over r [] = r
 rise_over r (t ∷ ts) = rise_over (rise_with r t) ts
 
 abbrev pub not_yet : Rise
-not_yet = record { rising = true; any = false; last = 0 }
+not_yet = record { rising = true; last = None }
 
 -- all retained lift times, by what a state says of them
 abbrev pub times_of : List ℕ → Serials → List ℕ → ℕ → List ℕ

@@ -9,5 +9,5 @@ returns-then-p-lt-TREE_FIRST c = due_lifts _ _ _ c.if-p-lt-TREE_FIRST.true
 pub returns-then-p-lt-BLOOM_FIRST : goal.returns-then-p-lt-BLOOM_FIRST
 returns-then-p-lt-BLOOM_FIRST c = c.holds_bucket.ensures ∙ due_holds _ _ _ c.if-p-lt-TREE_FIRST.false c.if-p-lt-BLOOM_FIRST.true
 
-pub returns : goal.returns
-returns c = rw c.sections_of-sections.ensures (due_last _ _ _ c.if-p-lt-TREE_FIRST.false c.if-p-lt-BLOOM_FIRST.false)
+pub returns-else-p-lt-BLOOM_FIRST : goal.returns-else-p-lt-BLOOM_FIRST
+returns-else-p-lt-BLOOM_FIRST c = rw c.sections_of.ensures (due_last _ _ _ c.if-p-lt-TREE_FIRST.false c.if-p-lt-BLOOM_FIRST.false)

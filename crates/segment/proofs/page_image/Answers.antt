@@ -21,5 +21,5 @@ pub returns-then-p-lt-HEADER_LAST : goal.returns-then-p-lt-HEADER_LAST
 returns-then-p-lt-HEADER_LAST c =
     c.bloom_page.ensures ∙ sym (image_bloom _ _ _ c.if-p-lt-BLOOM_FIRST.false c.if-p-lt-HEADER_LAST.true)
 
-pub returns : goal.returns
-returns c = c.header_page.ensures ∙ sym (image_header _ _ _ c.if-p-lt-HEADER_LAST.false)
+pub returns-else-p-lt-HEADER_LAST : goal.returns-else-p-lt-HEADER_LAST
+returns-else-p-lt-HEADER_LAST c = c.header_page.ensures ∙ sym (image_header _ _ _ c.if-p-lt-HEADER_LAST.false)

@@ -1,12 +1,7 @@
 -- `pages_erased`: what is left to look at from page p on answers as the whole does.
-use mathlib.Core.Path.{◌≡◌}
-use Prim.Native.Nat.{◌-◌, ◌≤◌}
+use Rattle.std.proofs.Common.{◌≡◌, ◌-◌}
 use Rattle.segment.specs.Pages.{pages_erased}
 use Rattle.segment.proofs.pages_erased.Given as goal
 
 abbrev pub invariant-loop-p : goal.invariant-loop-p
-invariant-loop-p l =
-    (l.p ≤ 32) × (pages_erased (32 - l.p) l.p l.nand l.slot l.count l.buckets ≡ pages_erased 32 0 l.nand l.slot l.count l.buckets)
-
-abbrev pub decreases-loop-p : goal.decreases-loop-p
-decreases-loop-p l = 32 - l.p
+invariant-loop-p l = pages_erased (32 - l.p) l.p l.nand l.slot l.count l.buckets ≡ pages_erased 32 0 l.nand l.slot l.count l.buckets

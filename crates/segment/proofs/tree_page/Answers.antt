@@ -10,4 +10,4 @@ returns c =
     let a = c.page_start-a.ensures in
     let e = c.start_of-end.ensures in
     tree_put c.args.nor.now _ _ _ _ _ _ _ _ a e (omega (arith, a, e, c.requires.2)) (omega (arith, e, c.requires.3))
-    c.smaller-n.ensures c.ones-d.ensures (part_from _ _ _ _ refl) c.copy.ensures
+    c.min-n.ensures c.ones-d.ensures (part_from _ _ _ _ refl) c.copy.ensures

@@ -1,11 +1,17 @@
-use native.Mathlib.Omega.{arith}
+-- `pointer_at` meets its contract. Assumes nothing.
+use Rattle.std.proofs.Common.{◌≡◌, ◌∙◌, ◌+◌}
+use Rattle.codec.specs.Number.{number_at}
+use Rattle.form.specs.Forms.{serial_width}
+use Rattle.skiplist.proofs.Pointers.{no_serial, read_numbers}
 use Rattle.skiplist.proofs.pointer_at.Goals as goal
+use Rattle.skiplist.proofs.pointer_at.Goals.{in-Old, in-New}
 
-pub new_pointer_at-requires : goal.new_pointer_at-requires
-new_pointer_at-requires c = let f = rw c.in-New.is at c.requires in omega arith
-
-pub returns-in-Old : goal.returns-in-Old
-returns-in-Old c = rw c.in-Old.is c.old_pointer_at.ensures
-
-pub returns-in-New : goal.returns-in-New
-returns-in-New c = rw c.in-New.is c.new_pointer_at.ensures
+pub returns : goal.returns
+returns c =
+    let serial : c.match-form.serial ≡ number_at c.args.s.now (c.args.at + 2) (serial_width c.args.form) =
+    elim c.match-form.branch [
+      | in-Old w ↦ rw (w.in-Old.is, w.serial-is) (no_serial c.args.s.now (c.args.at + 2))
+      | in-New w ↦ rw (w.in-New.is, w.serial-is) w.get_u32-serial.ensures
+    ] in
+    c.new.ensures
+    ∙ rw (c.get_u16-slot.ensures, c.get_u64-time.ensures) (read_numbers c.args.form _ _ _ _ c.pointer_bytes.ensures serial)

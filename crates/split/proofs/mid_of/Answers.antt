@@ -8,7 +8,7 @@ use Rattle.split.proofs.mid_of.Goals as goal
 found : (c : goal.After-mid-m)
     → Midway c.args.x c.args.y c.args.loads (c.mid-m.result - 2949999)
 found c =
-    midpoint_work _ _ _ _ c.mid-m.result c.args.loads c.requires.x_lt_y.0 c.predict-p.ensures c.mid-m.ensures
+    midpoint_work _ _ _ _ c.mid-m.result c.args.loads c.requires.x_lt_y.0 c.predict-l.ensures c.mid-m.ensures
 
 pub overflow_sub-result : goal.overflow_sub-result
 overflow_sub-result c = omega (arith, found c)

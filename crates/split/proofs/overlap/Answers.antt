@@ -27,9 +27,9 @@ returns-then-x-l-2 c =
       c.if-x-l-2.true,
     )
 
-pub returns : goal.returns
+pub returns-else-x-l-2 : goal.returns-else-x-l-2
 unfolding overlap
-returns c =
+returns-else-x-l-2 c =
     simp (
       lt_offset 3000000,
       le_offset 3000000,

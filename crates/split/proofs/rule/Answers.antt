@@ -27,7 +27,7 @@ pub returns-else-x-h : goal.returns-else-x-h
 unfolding rule
 returns-else-x-h c =
     simp (
-      c.larger.ensures,
+      c.max.ensures,
       c.halfway-else-x-h.ensures,
       c.in-2.is,
       left_of_lem 3000000,
@@ -51,7 +51,7 @@ pub returns-else-h-l : goal.returns-else-h-l
 unfolding rule
 returns-else-h-l c =
     simp (
-      c.smaller.ensures,
+      c.min.ensures,
       c.halfway-else-h-l.ensures,
       c.in-3.is,
       right_of 3000000,

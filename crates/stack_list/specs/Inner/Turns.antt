@@ -1,5 +1,5 @@
 -- What the loops of the generator have left to do. Assumes nothing.
-use Rattle.std.specs.Prelude.{◌≡◌, Bool, true, cond, ◌&&◌, List, [], ◌∷◌, ◌++◌, map, ℕ, suc, ◌+◌, ◌/◌, ◌≤◌, ltb, eqb, length, take}
+use Rattle.std.specs.Prelude.{◌≡◌, Bool, true, cond, ◌&&◌, List, [], ◌∷◌, ◌++◌, map, ℕ, suc, ◌+◌, ◌/◌, ◌≤◌, ◌<◌, ltb, eqb, length, Option, Some, None}
 use Rattle.plate.specs.Stack.{most_plates, is_plate}
 use Rattle.lines.specs.Forms.{line_feed}
 use Rattle.answers.specs.Printed.{number}
@@ -15,13 +15,18 @@ first_line (b ∷ bs) = cond (eqb b line_feed) [] (b ∷ first_line bs)
 unfoldable pub plate_or0 : List ℕ → ℕ
 plate_or0 line = cond (six_columns line && is_plate (plate_in line)) (plate_in line) 0
 
--- a line after so many stacks, the last of them with so many plates: whether a list can go on with it, its number, and the counts after
--- it
-unfoldable pub read_line : List ℕ → ℕ → ℕ → Read
+-- the plate of a line that has one
+pub record IsPlate (line : List ℕ) (plate : ℕ) : Type 0 where
+  pub is : plate ≡ plate_or0 line
+  pub some : 0 < plate
+
+-- a line after so many stacks, the last of them with so many plates: its number, and the counts after it; none where no list can go on
+-- with it
+unfoldable pub read_line : List ℕ → ℕ → ℕ → Option Read
 read_line line stacks plates =
     cond (is_blank line)
-    (record { good = ltb 0 plates && ltb stacks most_stacks; number = 0; stacks = suc stacks; plates = 0 })
-    (record { good = ltb plates most_plates && ltb 0 (plate_or0 line); number = plate_or0 line; stacks = stacks; plates = suc plates })
+    (cond (ltb 0 plates && ltb stacks most_stacks) (Some (record { number = 0; stacks = suc stacks; plates = 0 })) None)
+    (cond (ltb plates most_plates && ltb 0 (plate_or0 line)) (Some (record { number = plate_or0 line; stacks = stacks; plates = suc plates })) None)
 
 -- the lines from here on make a list, after so many stacks, the last of them with so many plates
 unfoldable pub list_from : ℕ → ℕ → List (List ℕ) → Bool
@@ -31,11 +36,11 @@ list_from stacks plates (line ∷ lines) =
     ((ltb 0 plates && ltb stacks most_stacks) && list_from (suc stacks) 0 lines)
     ((ltb plates most_plates && ltb 0 (plate_or0 line)) && list_from stacks (suc plates) lines)
 
--- a text read: one number for each line, and how many they are; 0 if it is not a list
-pub record Listed (text numbers : List ℕ) (n : ℕ) : Type 0 where
-  pub count : n ≡ cond (is_list text) (length (lines_of text)) 0
-  pub most : n ≤ 399
-  pub each : is_list text ≡ true → take n numbers ≡ map plate_in (lines_of text)
+-- a list read: one number for each line
+pub record Listed (text numbers : List ℕ) : Type 0 where
+  pub is : is_list text ≡ true
+  pub most : length numbers ≤ 399
+  pub each : numbers ≡ map plate_in (lines_of text)
 
 -- an end on its line
 unfoldable pub end_line : ℕ → List ℕ

@@ -1,22 +1,6 @@
--- `state_bytes::get_old_state` meets its contract, field by field.
-use Rattle.form.specs.declared.Form.TheVariants.{Old}
-use Rattle.loads.proofs.Signs.{read_back}
-use Rattle.state_bytes.proofs.Reading.{read, old_read}
+-- `state_bytes::get_old_state` meets its contract: form 0, and the oldest live time.
+use Rattle.state_bytes.proofs.Reading.{old_read}
 use Rattle.state_bytes.proofs.get_old_state.Goals as goal
 
 pub returns : goal.returns
-returns c =
-    old_read _ _ _ (read Old _ _
-    c.get_u32-oldest.ensures
-    c.get_u32-current.ensures
-    c.get_u16-count.ensures
-    c.get_u8-buckets.ensures
-    c.get_u64-next.ensures
-    c.pointers_at-heads.ensures
-    c.loads_at-loads.ensures
-    c.page_at-page.ensures
-    c.bloom_at-bloom.ensures
-    c.get_u64-start.ensures
-    (read_back _ _ c.load_at-low.type_inv c.load_at-low.ensures)
-    (read_back _ _ c.load_at-high.type_inv c.load_at-high.ensures))
-    c.get_u64-live.ensures
+returns c = old_read _ _ _ c.fields_at.ensures c.get_u64.ensures

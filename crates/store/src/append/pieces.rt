@@ -1,6 +1,7 @@
 // The pieces of an append: the plan with its grounds, and the carrying out, which the calls over byte areas share with it. They are no
 // calls: the second asks what its callers show.
-ghost use Rattle.std.specs.Prelude.{◌≡◌, true, length};
+ghost use Rattle.std.specs.Prelude.{◌≡◌, true, length, IfOk};
+ghost use Rattle.grounds.specs.Numbers.{number_in};
 ghost use Rattle.lift.specs.Limits.{load_ok};
 ghost use Rattle.form.specs.declared.Form.TheVariants.{New};
 ghost use Rattle.grow.specs.Inner.Meaning.{meaning};
@@ -10,31 +11,28 @@ ghost use Rattle.store.specs.Inner.Pieces as Pieces;
 ghost use Rattle.store.specs.Inner.Pieces.{Suits, Accepted, bounds_ground};
 
 use crate::State;
+use grounds::Ground;
 use grow::Plan;
 use lift::NOTE_BYTES;
 
-// An append's number, and its plan where that is 0.
-#[derive(Clone, Copy)]
-pub struct Planned {
-    pub number: u8,
-    pub plan: Plan,
-}
-
 // The grounds of an append, and its plan.
-pub fn plan_append(s: State, nand: &[u8], nor: &[u8], slots: u64, time: u64, load: i32) -> Planned
-    ensures number { result.number ≡ append_ground (world nand.now nor.now s) slots time load }
-    ensures accepted { result.number ≡ 0
-        → Accepted (world nand.now nor.now s) slots time load result.plan }
+pub fn plan_append(
+    s: State,
+    nand: &[u8],
+    nor: &[u8],
+    slots: u64,
+    time: u64,
+    load: i32,
+) -> Result<Plan, Ground>
+    ensures number { number_in result ≡ append_ground (world nand.now nor.now s) slots time load }
+    ensures accepted { IfOk result (λ p. Accepted (world nand.now nor.now s) slots time load p) }
 {
-    let n = s.entry_ground(nand.len(), nor.len(), slots, time, load);
-    if n != 0 {
-        return Planned {
-            number: n,
-            plan: Plan::Damage,
-        };
-    }
+    s.entry_ground(nand.len(), nor.len(), slots, time, load)?;
     let f = s.fields();
-    f.planned(nand, nor, slots, load)
+    let code = lift::stored(load);
+    let p = f.plan(nor, code);
+    f.blocked(nand, nor, slots, code, p)?;
+    Ok(p)
 }
 
 // Room for the lift, then the lift.

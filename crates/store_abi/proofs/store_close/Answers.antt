@@ -13,6 +13,6 @@ returns-then-state-ne-STATE_BYTES c = wrong_length _ _ _ _ c.if-state-ne-STATE_B
 pub returns : goal.returns
 unfolding close_called
 returns c =
-    right_length c.args.state.now _ _ _ _ _ _ _ _ _ c.if-state-ne-STATE_BYTES.false c.keep_state.ensures.number c.keep_state.ensures.state
-    (c.close-a.ensures
+    right_length c.args.state.now _ _ _ _ _ _ _ _ _ c.if-state-ne-STATE_BYTES.false c.keep_state.ensures.number (c.keep_state.ensures.state c.get_state-s.result)
+    (c.close-r.ensures
     ∙ ap (λ s. close_outcome (world c.args.nand.now c.args.nor.now s) c.args.slots) c.get_state-s.ensures)

@@ -3,7 +3,7 @@ use mathlib.Core.Path.{◌∙◌}
 use Rattle.service_page.specs.Page.{page_of}
 use Rattle.questions.proofs.TallyMost.{counts_fit}
 use Rattle.areas.specs.Areas.{page_called}
-use Rattle.areas.proofs.Leaves.{state_wrong, answer_wrong, both_right, tally_left_lem}
+use Rattle.areas.proofs.Leaves.{state_wrong, answer_wrong, both_right, refused_keeps, tally_left_lem}
 use native.Mathlib.Omega.{arith}
 use borrow.Author.Rules.{rules}
 use Rattle.store_abi.proofs.store_page.Goals as goal
@@ -18,10 +18,18 @@ returns-then-page-ne-PAGE_BYTES c = answer_wrong _ _ 984 _ _ c.if-state-ne-STATE
 
 pub keep_page-requires : goal.keep_page-requires
 keep_page-requires c =
-    (search rules, omega (arith, counts_fit _ _ _ _ c.tallied-t.ensures))
+    (search rules, omega (arith, counts_fit _ _ _ _ (rw c.in-Ok.is at c.tallied.ensures)))
 
-pub returns : goal.returns
+pub returns-in-Err : goal.returns-in-Err
 unfolding page_called
-returns c =
-    tally_left_lem (page_of _ _) _ _ _ _ _ c.tallied-t.ensures c.keep_page.ensures
+returns-in-Err c =
+    rw c.number.ensures.is (
+    tally_left_lem (page_of _ _) _ _ _ _ _ (rw c.in-Err.is at c.tallied.ensures) (refused_keeps c.in-Err.ground _ _)
+    ∙ both_right _ _ 984 _ _ c.if-state-ne-STATE_BYTES.false c.if-page-ne-PAGE_BYTES.false
+    )
+
+pub returns-in-Ok : goal.returns-in-Ok
+unfolding page_called
+returns-in-Ok c =
+    tally_left_lem (page_of _ _) _ _ _ _ _ (rw c.in-Ok.is at c.tallied.ensures) c.keep_page.ensures
     ∙ both_right _ _ 984 _ _ c.if-state-ne-STATE_BYTES.false c.if-page-ne-PAGE_BYTES.false

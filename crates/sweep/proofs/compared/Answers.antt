@@ -12,4 +12,4 @@ pub returns : goal.returns
 returns c =
     let a = c.args in
     record_in_lem a.r a.p a.code _ _ _ _ a.s c.record_code-recorded.ensures c.record_time-t.ensures
-    c.if-not-inside.false _ c.insert-more.ensures
+    c.if-not-inside.false _ c.insert.ensures

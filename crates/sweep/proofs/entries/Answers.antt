@@ -1,7 +1,6 @@
 -- `sweep::entries` meets its contract: the entries passed and those left are the bucket's.
-use Prim.Native.Nat.{◌-◌}
 use native.Mathlib.Omega.{arith}
-use Rattle.sweep.proofs.Passing.{passed_none, position_below, passed_more, passed_all}
+use Rattle.sweep.proofs.Passing.{found_all, damaged_all, passed_none, position_below, passed_more, passed_all}
 use Rattle.sweep.proofs.entries.Goals as goal
 
 pub loop-i-init : goal.loop-i-init
@@ -18,5 +17,10 @@ entry_at-s-requires c =
 pub loop-i-preserved : goal.loop-i-preserved
 loop-i-preserved c = rw c.entry_at-s.ensures (passed_more _ _ _ _ _ _ _ _ _ c.loop-i.invariant (omega arith))
 
-pub returns : goal.returns
-returns c = passed_all _ _ _ _ _ _ _ _ _ c.loop-i.invariant (omega arith)
+pub returns-then-s : goal.returns-then-s
+returns-then-s c =
+    found_all _ _ (passed_all _ _ _ _ _ _ _ _ _ c.loop-i.invariant (omega arith)) c.if-s.true
+
+pub returns-else-s : goal.returns-else-s
+returns-else-s c =
+    damaged_all _ _ (passed_all _ _ _ _ _ _ _ _ _ c.loop-i.invariant (omega arith)) c.if-s.false

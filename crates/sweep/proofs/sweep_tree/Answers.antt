@@ -1,59 +1,50 @@
 -- `sweep::sweep_tree` meets its contract: what is found so far and what is left to be found is what the whole sweep finds.
-use mathlib.Core.Path.{sym, ◌∙◌}
-use mathlib.Core.Bool.{true}
-use Prim.Native.Nat.{◌-◌}
-use native.Mathlib.Omega.{arith}
+use Rattle.std.specs.Prelude.{None}
+use Rattle.std.proofs.Common.{◌≡◌, sym, ◌∙◌, rules, arith}
 use lib.Count.{trailing_le}
-use borrow.Author.Tests.{ltb-true, eqb-true}
-use Rattle.codec.proofs.Truth.{and_parts}
+use borrow.Author.Tests.{eqb-true}
 use Rattle.sweep.proofs.Mask.{due_root, lowest_rises}
-use Rattle.sweep.proofs.Visits.{turn_first, turn_bare, turn_last, turn_read, ended_was}
-use borrow.Author.Rules.{rules}
+use Rattle.sweep.proofs.Visits.{turn_first, turn_bare, turn_last, turn_read}
 use Rattle.sweep.proofs.sweep_tree.Goals as goal
 
 pub returns-then-g-eq0 : goal.returns-then-g-eq0
 returns-then-g-eq0 c =
     let b = turn_bare _ _ _ _ _ _ c.empty-none.ensures c.if-g-eq0.true in
-    record {
-      found = b.0;
-      pages = λ e. b.1;
-    }
+    record { found = b.0; pages = b.1 }
 
-pub loop-g-init : goal.loop-g-init
-loop-g-init c =
+pub loop-t-init : goal.loop-t-init
+loop-t-init c =
     let f = turn_first _ _ _ _ _ _ c.empty-none.ensures in (
       λ j e. let z = eqb-true j 0 (sym (due_root j) ∙ e) in omega (arith, z, c.if-g-eq0.false),
       f.0,
-      λ e. f.1,
+      f.1,
     )
 
-pub returns-then-not-go : goal.returns-then-not-go
-returns-then-not-go c =
+pub visit-requires : goal.visit-requires
+visit-requires c =
+    record { held = c.requires; due = (c.loop-t-test.true, c.loop-t.invariant.0) }
+
+pub returns-in_err-t-clause-found : goal.returns-in_err-t-clause-found
+returns-in_err-t-clause-found c =
+    let damage : c.from_residual.result ≡ None = search rules in
+    rw damage (c.in_err-t.ensures.leads ∙ c.loop-t.invariant.1)
+
+pub loop-t-smaller : goal.loop-t-smaller
+loop-t-smaller c =
+    let r = lowest_rises c.loop-t.t.due c.loop-t-test.true (search rules) c.in_ok-t.t.due (search rules) c.in_ok-t.ensures.left.1 in
+    omega (arith, r, trailing_le 64 c.in_ok-t.t.due)
+
+pub loop-t-preserved : goal.loop-t-preserved
+loop-t-preserved c =
+    let e = c.in_ok-t.ensures in
+    (e.left.0, e.leads ∙ c.loop-t.invariant.1, λ j. e.pages j ∙ c.loop-t.invariant.2 j)
+
+pub returns : goal.returns
+returns c =
     let a = c.args in
-    let t = c.loop-g.t in
-    let none = c.if-not-go.true in
+    let t = c.loop-t.t in
+    let over : t.due ≡ 0 = omega (arith, c.loop-t-test.false) in
     record {
-      found = c.ended-found.ensures ∙ turn_last _ _ _ _ _ _ none ∙ c.loop-g.invariant.1;
-      pages = λ e. let good = ended_was t _ c.ended-found.ensures e in
-          turn_read a.tree.now a.lifts.now a.tail.now a.g a.r t none good (search rules) c.requires.few (c.loop-g.invariant.2 good);
+      found = turn_last _ _ _ _ _ t over ∙ c.loop-t.invariant.1;
+      pages = turn_read a.tree.now a.lifts.now a.tail.now a.g a.r t over (search rules) c.requires.few c.loop-t.invariant.2;
     }
-
-pub visit-t-requires : goal.visit-t-requires
-visit-t-requires c =
-    let go = and_parts c.loop-g.t.good _ c.if-not-go.false in
-    record {
-      held = c.requires;
-      good_value = (go.0, ltb-true 0 _ go.1, c.loop-g.invariant.0);
-    }
-
-pub loop-g-smaller : goal.loop-g-smaller
-loop-g-smaller c =
-    let go = and_parts c.loop-g.t.good _ c.if-not-go.false in
-    let r = lowest_rises c.loop-g.t.due (ltb-true 0 _ go.1) (search rules) c.visit-t.result.due (search rules)
-    c.visit-t.ensures.left.1 in
-    omega (arith, r, trailing_le 64 c.visit-t.result.due)
-
-pub loop-g-preserved : goal.loop-g-preserved
-loop-g-preserved c =
-    let go = and_parts c.loop-g.t.good _ c.if-not-go.false in
-    (c.visit-t.ensures.left.0, c.visit-t.ensures.leads ∙ c.loop-g.invariant.1, λ e j. c.visit-t.ensures.pages e j ∙ c.loop-g.invariant.2 go.0 j)

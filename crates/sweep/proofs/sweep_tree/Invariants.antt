@@ -1,6 +1,5 @@
 -- `sweep::sweep_tree` meets its contract: what is found so far and what is left to be found is what the whole sweep finds.
 use mathlib.Core.Path.{◌≡◌}
-use mathlib.Core.Bool.{true}
 use mathlib.Core.List.{map}
 use Prim.Native.Nat.{ℕ, ◌-◌}
 use lib.Count.{count_trailing_zeros}
@@ -11,10 +10,10 @@ use Rattle.sweep.specs.Inner.Swept.{swept_of}
 use Rattle.sweep.specs.Inner.Turns.{DueBelow, onward, read_onward}
 use Rattle.sweep.proofs.sweep_tree.Given as goal
 
-abbrev pub invariant-loop-g : goal.invariant-loop-g
-invariant-loop-g l =
+abbrev pub invariant-loop-t : goal.invariant-loop-t
+invariant-loop-t l =
     DueBelow l.g.buckets l.t.due × (onward l.tree l.lifts l.tail l.g l.r l.t ≡ swept_of l.tree l.lifts l.tail l.g l.r)
-    × (l.t.good ≡ true → (j : ℕ) → read_onward l.tree l.g l.r l.t j ≡ elem j (map bucket_page (visited_on l.tree l.g.buckets l.r.k1 l.r.k2)))
+    × ((j : ℕ) → read_onward l.tree l.g l.r l.t j ≡ elem j (map bucket_page (visited_on l.tree l.g.buckets l.r.k1 l.r.k2)))
 
-abbrev pub decreases-loop-g : goal.decreases-loop-g
-decreases-loop-g l = 64 - count_trailing_zeros 64 l.t.due
+abbrev pub decreases-loop-t : goal.decreases-loop-t
+decreases-loop-t l = 64 - count_trailing_zeros 64 l.t.due

@@ -1,6 +1,6 @@
 -- What a search takes from a tree's bytes (document 01, "Search": "The matches of one segment are a set of 320 bits").
 -- Assumes nothing.
-use Rattle.std.specs.Prelude.{Bool, true, false, cond, ◌&&◌, List, [], ◌∷◌, ℕ, ◌-◌, ◌*◌, ◌≤◌, leb, length}
+use Rattle.std.specs.Prelude.{Option as Maybe, Some, None, Bool, true, false, cond, ◌&&◌, List, [], ◌∷◌, ℕ, ◌-◌, ◌*◌, ◌≤◌, leb, length}
 use Rattle.std.proofs.Math.Option.{Option, none, some}
 use Rattle.bitset.specs.Inner.Words.{empty_words, insert_all}
 use Rattle.lift.specs.Record.{record_width}
@@ -9,10 +9,21 @@ use Rattle.tree.specs.Sweep.{sweep_on}
 use Rattle.sweep.specs.declared.Records.{Records}
 use Rattle.sweep.specs.declared.Range.{Range}
 use Rattle.sweep.specs.declared.Sweep.{Sweep}
+use Rattle.sweep.specs.declared.Swept.{Swept}
+use Rattle.bitset.specs.declared.Bits.{Bits}
 
 -- damage: no set
 abbrev pub none_swept : Sweep
 none_swept = record { good = false; set = record { words = empty_words } }
+
+-- what the code answers: none where damage was met
+abbrev pub as_sweep : Maybe Bits → Sweep
+as_sweep None = none_swept
+as_sweep (Some b) = record { good = true; set = b }
+
+abbrev pub found_of : Maybe Swept → Sweep
+found_of None = none_swept
+found_of (Some s) = record { good = true; set = s.set }
 
 -- a set with the positions that are found, or damage
 abbrev pub swept_from : List ℕ → Option (List ℕ) → Sweep

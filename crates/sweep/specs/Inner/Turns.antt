@@ -1,5 +1,5 @@
 -- The turns of the code's loops over buckets and entries. Assumes nothing.
-use Rattle.std.specs.Prelude.{◌≡◌, Bool, true, cond, ◌&&◌, ◌||◌, List, [], ◌∷◌, map, ℕ, ◌<◌, eqb}
+use Rattle.std.specs.Prelude.{Option as Maybe, Some, None, ◌≡◌, Bool, true, cond, ◌&&◌, ◌||◌, List, [], ◌∷◌, map, ℕ, ◌<◌, eqb}
 use Rattle.std.proofs.Math.Option.{Option}
 use Rattle.bitset.specs.Set.{elem}
 use Rattle.bitset.specs.Inner.Words.{bit, insert_in}
@@ -53,9 +53,13 @@ unfoldable pub with_entries : (ℕ → ℕ) → (ℕ → ℕ) → Range → List
 with_entries codes times r [] s = s
 with_entries codes times r (e ∷ es) s = with_entries codes times r es (with_entry codes times r e s)
 
+-- with damage no set
+abbrev pub spoilt_empty : Sweep → Sweep
+spoilt_empty s = cond s.good s none_swept
+
 -- what the sweep comes to, if `rest` is found in the buckets that are left
 abbrev pub leads_to : Option (List ℕ) → Turn → Sweep
-leads_to rest t = cond t.good (swept_from t.set.words rest) none_swept
+leads_to rest t = swept_from t.set.words rest
 
 -- the buckets that are left, those due and those that they lead to
 abbrev pub left : List ℕ → Records → Range → Turn → List ℕ
@@ -66,6 +70,11 @@ unfoldable pub onward : List ℕ → List ℕ → List ℕ → Records → Range
 onward tree lifts tail g r t =
     leads_to (passing_of (timely_at lifts tail g r)
     (gathered tree g.buckets g.count (codes_of lifts tail g) r.k1 r.k2 (left tree g r t))) t
+
+-- with those of the next turn; none where damage was met
+abbrev pub onward_of : List ℕ → List ℕ → List ℕ → Records → Range → Maybe Turn → Sweep
+onward_of tree lifts tail g r None = none_swept
+onward_of tree lifts tail g r (Some t) = onward tree lifts tail g r t
 
 -- ---- pages
 

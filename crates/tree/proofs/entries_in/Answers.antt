@@ -1,25 +1,25 @@
--- `tree::entries_in` meets its contract: every entry passed is good, and where one is not, the rest is told apart from the end.
-use mathlib.Core.Path.{◌≡◌, sym, ◌∙◌}
-use Prim.Native.Nat.{◌-◌}
-use mathlib.Core.Bool.{true}
+-- `tree::entries_in` meets its contract: every entry passed is below the count, and where one is not, it is the end or damage.
+use Rattle.std.specs.Prelude.{Some}
+use mathlib.Core.Path.{◌≡◌, sym, ap, ◌∙◌}
 use native.Mathlib.Omega.{arith}
-use Rattle.tree.proofs.Looked.{passed_none, passed_end, passed_good, no_places}
+use Rattle.tree.proofs.Looked.{passed_end, passed_more, passed_damage, entries_end, no_places}
 use Rattle.tree.proofs.entries_in.Goals as goal
 
-pub loop-i-init : goal.loop-i-init
-loop-i-init c = passed_none _ _ 0 (omega arith)
+pub returns-then-p : goal.returns-then-p
+returns-then-p c =
+    passed_end _ _ _ c.loop-i.invariant (entries_end _ _ _ (sym c.entry_position-p.ensures ∙ c.if-p.true))
 
-pub returns-then-count-p : goal.returns-then-count-p
-returns-then-count-p c =
-    let h = c.loop-i.invariant in record { good = c.entries_on.ensures.good ∙ h.all; used = omega (arith, c.entries_on.ensures.used, h.used) }
+pub returns-else-p : goal.returns-else-p
+returns-else-p c =
+    let p = c.entry_position-p.ensures in
+    passed_damage _ _ _ c.loop-i.invariant c.loop-i-test.true (omega (arith, p, c.if-count-p.true)) (λ e. c.if-p.false (p ∙ e))
 
 pub loop-i-preserved : goal.loop-i-preserved
 loop-i-preserved c =
-    let p = c.entry_position-p.ensures in
-    let more = c.loop-i-test in
-    passed_good _ _ 0 _ (omega arith) c.loop-i.invariant more.true (omega (arith, sym p, c.if-count-p.false))
+    passed_more _ _ _ c.loop-i.invariant c.loop-i-test.true (omega arith)
+    (omega (arith, c.entry_position-p.ensures, c.if-count-p.false))
 
 pub returns : goal.returns
 returns c =
-    let e : 13 - c.loop-i.i ≡ 0 = omega arith in
-    let q = passed_end _ _ 0 _ _ c.loop-i.invariant (no_places _ _ _ e) in record { good = q.0; used = omega (arith, q.1) }
+    let all : 13 ≡ c.loop-i.i = omega arith in
+    ap Some all ∙ passed_end _ _ _ c.loop-i.invariant (no_places _ _ _ (omega arith))

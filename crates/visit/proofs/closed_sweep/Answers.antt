@@ -1,4 +1,5 @@
 -- `visit::closed_sweep` meets its contract: the matches in the slot's pages.
+use Rattle.std.proofs.lemmas.Option.{IfSome_then}
 use Rattle.visit.proofs.Areas.{closed_held, closed_are, closed_read}
 use Rattle.visit.proofs.closed_sweep.Goals as goal
 
@@ -15,5 +16,5 @@ returns c =
     let records = c.closed_records-g.ensures in
     record {
       found = closed_are _ _ p _ _ tree lifts _ records _ _ c.matches.ensures.found;
-      pages = λ e. closed_read _ _ p _ _ tree lifts _ records _ _ (c.matches.ensures.pages e);
+      pages = IfSome_then _ c.matches.ensures.pages (λ m. closed_read _ _ p _ _ tree lifts _ records _ _);
     }

@@ -7,4 +7,4 @@ use Rattle.walk.proofs.cursor_at.Goals as goal
 pub returns : goal.returns
 returns c =
     let a = c.args in
-    ap (λ (p : Pointer). record { good = true; last = a.last; next = p; before = a.before }) c.new-next.ensures
+    ap (λ (p : Pointer). record { good = true; last = a.last; next = p; before = a.before }) c.new.ensures

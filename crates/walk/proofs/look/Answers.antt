@@ -56,13 +56,13 @@ returns-then-p c =
       bloom = v.bloom_is;
     }
 
-pub count_in-count-requires : goal.count_in-count-requires
-count_in-count-requires c =
+pub count_in-requires : goal.count_in-requires
+count_in-requires c =
     let page : length c.pages_of-h.result.now ≡ 512 = ap length c.pages_of-h.ensures ∙ length_part _ _ 512 (omega (arith, c.requires)) in
     page
 
-pub buckets_in-buckets-requires : goal.buckets_in-buckets-requires
-buckets_in-buckets-requires c =
+pub buckets_in-requires : goal.buckets_in-requires
+buckets_in-requires c =
     let page : length c.pages_of-h.result.now ≡ 512 = ap length c.pages_of-h.ensures ∙ length_part _ _ 512 (omega (arith, c.requires)) in
     page
 
@@ -72,7 +72,7 @@ returns c =
     let is = c.pass_over-p.ensures a.slots a.before in
     let v = seen_searched _ _ _ _ _ _ c.pages_of-h.ensures _ c.header_good-good.ensures (ap not c.if-not-good.false) _ _
     is.0 is.1 _ c.pointer_in-first.ensures _ _ c.start_in.ensures
-    c.serial_in-serial.ensures c.if-p.false _ _ c.count_in-count.ensures c.buckets_in-buckets.ensures in
+    c.serial_in-serial.ensures c.if-p.false _ _ c.count_in.ensures c.buckets_in.ensures in
     record {
       step = v.step_is;
       bloom = v.bloom_is;

@@ -11,14 +11,14 @@ returns-then-done c = let s = start_none _ _ _ _ c.if-done.true in
       moves = s.moves_are;
     }
 
-pub pointer_from-first-requires : goal.pointer_from-first-requires
-pointer_from-first-requires c = (c.seek-w.ensures.inside, omega arith)
+pub pointer_from-requires : goal.pointer_from-requires
+pointer_from-requires c = (c.seek-w.ensures.inside, omega arith)
 
 pub returns : goal.returns
 returns c =
     let a = c.args in
     let s = start_reached _ _ _ _ c.if-done.false (walk_at a.nand.now a.g.heads 0 c.seek-w.result) c.seek-w.ensures.leads _
-    c.pointer_from-first.ensures in
+    c.pointer_from.ensures in
     record {
       at = s.at_is;
       moves = s.moves_are;

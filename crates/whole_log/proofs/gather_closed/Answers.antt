@@ -1,48 +1,37 @@
 -- `whole_log::gather_closed` meets its contract: the segments in hand and those that are left come to the whole.
-use mathlib.Core.Path.{refl}
-use Rattle.found.specs.Inner.Slots.{serial_in}
-use Rattle.found.proofs.Most.{slots_most_lem}
-use Rattle.whole_log.proofs.Turns.{going_room, going_on, going_over}
-use borrow.Author.Rules.{rules}
-use native.Mathlib.Omega.{arith}
+use Rattle.std.proofs.lemmas.Result.{err_from_is_err_and}
+use Rattle.whole_log.proofs.Turns.{going_begun, going_over, going_spoilt, going_searchable, going_damage, going_on}
 use Rattle.whole_log.proofs.gather_closed.Goals as goal
 
-pub loop-g-init : goal.loop-g-init
-loop-g-init c =
-    let a = c.args in
-    record {
-      busy = refl;
-      ways = refl;
-      words = refl;
-      sound = c.requires.sound;
-      low_most = omega arith;
-      left = slots_most_lem (serial_in a.nand.now) a.g.slots a.c.before;
-      leads = λ nor page o j. j;
-    }
+pub loop-s-init : goal.loop-s-init
+loop-s-init c = going_begun _ _ _ _ _ _ c.requires.nand_len.2 c.requires.sound
 
-pub gather_on-r-requires : goal.gather_on-r-requires
-gather_on-r-requires c =
-    let i = c.loop-g.invariant in
-    record {
-      nand_len = (c.requires.nand_len.0, c.requires.nand_len.1, going_room _ _ _ _ _ _ _ _ _ i c.requires.nand_len.2);
-      done_value = (i.busy, i.sound);
-      low_le_slots = (i.low_most, i.left);
-    }
+pub returns-in_err-s : goal.returns-in_err-s
+returns-in_err-s c =
+    let p = err_from_is_err_and c.from_residual.result c.from_residual.ensures.1 in
+    let d = c.in_err-s.ensures in
+    λ nor page o j.
+    rw (p.1, p.2) (d.0, going_spoilt _ _ _ _ _ _ c.requires.nand_len.0 _ _ _ _ c.loop-s.invariant d.1 nor page o j)
 
-pub shape_of-way-then-done : goal.shape_of-way-then-done
-shape_of-way-then-done c = search (rules, c.loop-g.invariant.ways)
+pub overflow_sub-low : goal.overflow_sub-low
+overflow_sub-low c =
+    let v = rw c.in-Some.is at c.in_ok-s.ensures in
+    (going_searchable _ _ _ _ _ _ c.requires.nand_len.0 _ _ _ _ c.loop-s.invariant _ _ v).place
 
-pub shape_of-sets-then-done : goal.shape_of-sets-then-done
-shape_of-sets-then-done c = search (rules, c.loop-g.invariant.words)
+pub returns-in_err-gather_one : goal.returns-in_err-gather_one
+returns-in_err-gather_one c =
+    let v = rw c.in-Some.is at c.in_ok-s.ensures in
+    let p = err_from_is_err_and c.from_residual-in_err-gather_one.result c.from_residual-in_err-gather_one.ensures.1 in
+    let d = c.in_err-gather_one.ensures.damage in
+    λ nor page o j.
+    rw (p.1, p.2) (d.0, going_damage _ _ _ _ _ _ c.requires.nand_len.0 _ _ _ _ c.loop-s.invariant _ _ v d.1 nor page o j)
 
-pub returns-then-done : goal.returns-then-done
-returns-then-done c =
-    going_over _ _ _ _ _ _ _ _ _ c.loop-g.invariant _ _ _ c.gather_on-r.ensures c.if-done.true
+pub loop-s-preserved : goal.loop-s-preserved
+loop-s-preserved c =
+    let v = rw c.in-Some.is at c.in_ok-s.ensures in
+    going_on _ _ _ _ _ _ c.requires.nand_len.0 _ _ _ _ c.loop-s.invariant _ _ v _ _ c.in_ok-gather_one.ensures.put
 
-pub loop-g-smaller : goal.loop-g-smaller
-loop-g-smaller c = c.gather_on-r.ensures.falls c.if-done.false
-
-pub loop-g-preserved : goal.loop-g-preserved
-loop-g-preserved c =
-    going_on _ _ _ _ _ _ _ _ _ c.loop-g.invariant _ _ _ c.gather_on-r.ensures (search rules) (search rules)
-    c.if-done.false
+pub returns : goal.returns
+returns c =
+    let e = rw c.in_default.is at c.in_ok-s.ensures in
+    λ nor page o j. going_over _ _ _ _ _ _ c.requires.nand_len.0 _ _ _ _ c.loop-s.invariant e nor page o j

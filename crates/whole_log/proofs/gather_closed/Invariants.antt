@@ -2,8 +2,8 @@
 use Rattle.whole_log.proofs.Turns.{Going}
 use Rattle.whole_log.proofs.gather_closed.Given as goal
 
-abbrev pub invariant-loop-g : goal.invariant-loop-g
-invariant-loop-g l = Going l.nand l.g l.q l.initial.way l.initial.sets l.initial.r.c l.way l.sets l.r
+abbrev pub invariant-loop-s : goal.invariant-loop-s
+invariant-loop-s l = Going l.nand l.g l.q l.initial.way l.initial.sets l.initial.at l.way l.sets l.at l.low
 
-abbrev pub decreases-loop-g : goal.decreases-loop-g
-decreases-loop-g l = l.r.c.before
+abbrev pub decreases-loop-s : goal.decreases-loop-s
+decreases-loop-s l = l.at.before

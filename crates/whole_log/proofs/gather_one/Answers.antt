@@ -1,16 +1,9 @@
--- `whole_log::gather_one` meets its contract: the segment's slot and the set that is found in it.
-use mathlib.Core.Path.{refl, ap, ◌∙◌}
-use Prim.Native.Nat.{◌*◌}
-use Rattle.codec.specs.Area.{splice}
-use Rattle.sweep.specs.declared.Sweep.{Sweep}
+-- `whole_log::gather_one` meets its contract: damage, or the segment's slot and the set that is found in it.
+use mathlib.Core.Path.{refl}
+use Rattle.sweep.specs.Inner.Swept.{none_swept}
+use Rattle.found.proofs.Matched.{closed_none}
 use Rattle.whole_log.proofs.gather_one.Goals as goal
 
-pub returns : goal.returns
-returns c =
-    let m = c.closed_matches-m.ensures in
-    let a = c.args in
-    record {
-      good = ap (λ (x : Sweep). x.good) m;
-      way = refl;
-      sets = c.put_set.ensures.written ∙ ap (λ (x : Sweep). splice a.sets.now (5 * a.i) x.set.words) m;
-    }
+pub returns-in_default-clause-damage : goal.returns-in_default-clause-damage
+returns-in_default-clause-damage c =
+    (refl, closed_none c.args.nand.now c.args.s c.args.q none_swept c.in_default.ensures refl)

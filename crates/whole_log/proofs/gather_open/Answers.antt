@@ -1,30 +1,19 @@
--- `whole_log::gather_open` meets its contract: no lifts, or the set that is found in the open segment.
-use mathlib.Core.Path.{sym, ap, ◌∙◌}
-use Prim.Native.Nat.{ℕ, ◌*◌}
+-- `whole_log::gather_open` meets its contract: no lifts, damage, or the set that is found in the open segment.
+use mathlib.Core.Path.{◌≡◌, refl, sym, ap, ◌∙◌}
 use lib.ListN.{set}
-use Rattle.codec.specs.Area.{splice}
+use Rattle.bitset.specs.declared.Bits.{Bits}
 use Rattle.sweep.specs.declared.Sweep.{Sweep}
-use Rattle.whole_log.proofs.Segments.{open_empty, open_lifts_lem}
+use Rattle.whole_log.proofs.Segments.{open_empty}
 use Rattle.whole_log.proofs.gather_open.Goals as goal
 
-pub returns-then-g-eq0 : goal.returns-then-g-eq0
-returns-then-g-eq0 c =
+pub returns-then-g-eq0-clause-put : goal.returns-then-g-eq0-clause-put
+returns-then-g-eq0-clause-put c =
     let a = c.args in
     let is = open_empty a.nand.now a.nor.now a.page.now a.g a.q c.if-g-eq0.true in
+    let empty : ◌≡◌ {A = Bits} c.empty.result (record { words = c.empty.result.words }) = refl in
     record {
-      good = sym (ap (λ (m : Sweep). m.good) is);
-      way = ap (λ (x : ℕ). set a.way.now a.g.slots x) c.slot_of.ensures.0;
-      sets = c.put_set.ensures.written
-          ∙ ap (splice a.sets.now (5 * a.g.slots)) (c.empty-nothing.ensures ∙ sym (ap (λ (m : Sweep). m.set.words) is));
-    }
-
-pub returns : goal.returns
-returns c =
-    let a = c.args in
-    let is = c.open_matches-m.ensures
-    ∙ sym (open_lifts_lem a.nand.now a.nor.now a.page.now a.g a.q c.if-g-eq0.false) in
-    record {
-      good = ap (λ (m : Sweep). m.good) is;
-      way = ap (λ (x : ℕ). set a.way.now a.g.slots x) c.slot_of.ensures.0;
-      sets = c.put_set-2.ensures.written ∙ ap (λ (m : Sweep). splice a.sets.now (5 * a.g.slots) m.set.words) is;
+      good = rw is refl;
+      way_is = ap (set a.way.now a.g.slots) c.slot_of.ensures.0;
+      sets_are = ap (λ (b : Bits). set a.sets.now a.g.slots b)
+          (empty ∙ ap (λ ws. record { words = ws }) c.empty.ensures ∙ sym (ap (λ (m : Sweep). m.set) is));
     }

@@ -1,9 +1,9 @@
 -- A whole log in hand: of each segment its slot and the set of its lifts, so that its rows can be gone through. Assumes nothing.
 use Rattle.std.specs.Prelude.{◌≡◌, cond, List, [], ◌++◌, map, ℕ, zero, suc, ◌+◌, ◌-◌, ◌*◌, ◌≤◌, ◌<◌, eqb, ltb, length, get_or}
 use Rattle.std.proofs.Math.Option.{some}
-use Rattle.codec.specs.Area.{part}
 use Rattle.codec.specs.Number.{number_at}
 use Rattle.flash.specs.Chip.{page_of, pages_of, header_last, tree_first, slot_width}
+use Rattle.bitset.specs.declared.Bits.{Bits}
 use Rattle.bitset.specs.Inner.Words.{empty_words, members, Below}
 use Rattle.lift.specs.Rows.{record_in, lifts_most}
 use Rattle.sweep.specs.declared.Records.{Records}
@@ -24,13 +24,14 @@ rows_on row places i (suc n) = map (row i) (places i) ++ rows_on row places (suc
 
 -- ---- sets side by side
 
-abbrev pub set_words : ℕ
-set_words = 5
+-- past the end
+abbrev pub no_set : Bits
+no_set = record { words = [] }
 
-abbrev pub set_in : List ℕ → ℕ → List ℕ
-set_in sets i = part sets (set_words * i) set_words
+abbrev pub set_in : List Bits → ℕ → List ℕ
+set_in sets i = (get_or sets i no_set).words
 
-abbrev pub places_in : List ℕ → ℕ → List ℕ
+abbrev pub places_in : List Bits → ℕ → List ℕ
 places_in sets i = members (set_in sets i)
 
 -- ---- the segments of a log: S is the open one
@@ -50,7 +51,7 @@ abbrev pub row_at : List ℕ → List ℕ → Log → List ℕ → ℕ → ℕ �
 row_at nand page g way i p = record_in (lifts_at nand (get_or way i 0)) page (records_at g i).first p
 
 -- the rows of all segments from the lowest on
-abbrev pub rows_held : List ℕ → List ℕ → Log → List ℕ → List ℕ → ℕ → List (List ℕ)
+abbrev pub rows_held : List ℕ → List ℕ → Log → List ℕ → List Bits → ℕ → List (List ℕ)
 rows_held nand page g way sets low = rows_on (row_at nand page g way) (places_in sets) low (g.slots + 1 - low)
 
 -- the closed segment in a slot, by its header
@@ -76,24 +77,24 @@ set_for nand nor page g q way i =
     cond (ltb i g.slots) (closed_sweep nand (closed_in nand (get_or way i 0)) q).set.words (open_sweep nand nor page g q).set.words
 
 -- room for S + 1 segments
-pub record Room (g : Log) (way sets : List ℕ) : Type 0 where
+pub record Room (g : Log) (way : List ℕ) (sets : List Bits) : Type 0 where
   pub slots_most_lem : g.slots ≤ 4096
   pub ways : g.slots < length way
-  pub words : set_words * (g.slots + 1) ≤ length sets
+  pub words : g.slots < length sets
 
 -- segment i can be read: its slot lies in the chip, its places have records
-pub record Readable (nand page : List ℕ) (g : Log) (way sets : List ℕ) (i : ℕ) : Type 0 where
+pub record Readable (nand page : List ℕ) (g : Log) (way : List ℕ) (sets : List Bits) (i : ℕ) : Type 0 where
   pub inside : get_or way i 0 * slot_width + slot_width ≤ length nand
   pub recorded : Recorded (lifts_at nand (get_or way i 0)) page (records_at g i)
   pub below : Below (records_at g i).count (places_in sets i)
 
 -- and its set is what a search finds in it
-pub record Found (nand nor page : List ℕ) (g : Log) (q : Query) (way sets : List ℕ) (i : ℕ) : Type 0 where
+pub record Found (nand nor page : List ℕ) (g : Log) (q : Query) (way : List ℕ) (sets : List Bits) (i : ℕ) : Type 0 where
   pub readable : Readable nand page g way sets i
   pub closed : i < g.slots → ClosedSound nand (closed_in nand (get_or way i 0))
   pub anew : set_in sets i ≡ set_for nand nor page g q way i
 
 -- the segments from the lowest on
-pub record Held (nand nor page : List ℕ) (g : Log) (q : Query) (way sets : List ℕ) (low : ℕ) : Type 0 where
+pub record Held (nand nor page : List ℕ) (g : Log) (q : Query) (way : List ℕ) (sets : List Bits) (low : ℕ) : Type 0 where
   pub low_most : low ≤ g.slots
   pub each : (i : ℕ) → low ≤ i → i ≤ g.slots → Found nand nor page g q way sets i

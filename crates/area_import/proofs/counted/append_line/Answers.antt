@@ -1,19 +1,12 @@
--- `area_import::counted::append_line` meets its contract: a bad record's number, or the append.
+-- `area_import::counted::append_line` meets its contract: the append of what it tells.
 use mathlib.Core.Path.{◌≡◌, ap, ◌∙◌}
 use lib.IntN.{ℤ}
 use mir.Syntax.{w32, w64}
 use mir.Val.{to_z, of_z}
-use borrow.Author.Tests.{not-true, not-false}
 use Rattle.areas.specs.Areas.{append_kept_called}
 use Rattle.area_import.proofs.Left.{left_told_kept}
 use borrow.Author.Rules.{rules}
-use mathlib.Core.Bool.{not}
 use Rattle.area_import.proofs.counted.append_line.Goals as goal
-
-pub returns-then-not-good : goal.returns-then-not-good
-returns-then-not-good c =
-    let a = c.args in
-    rw (not-true a.l.good (ap not c.if-not-good.true), c.bad_number.ensures, c.first_grounds-n.ensures)
 
 pub returns : goal.returns
 returns c =
@@ -21,7 +14,6 @@ returns c =
     let passed : to_z w32 (of_z w32 c.fitted-load.result) ≡ c.fitted-load.result = search rules in
     let a = c.args in
     let f = rw load_is at c.fitted-load.ensures in
-    rw (not-false a.l.good (ap not c.if-not-good.false))
     (c.append.ensures
     ∙ ap (λ (z : ℤ). append_kept_called a.state.now a.counts.now a.nand.now a.nor.now a.slots a.l.time z c.note_of-note.result)
     passed

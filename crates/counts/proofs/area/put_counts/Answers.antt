@@ -1,6 +1,6 @@
 -- `counts::area::put_counts` meets its contract: in each turn one count more is written.
 use mathlib.Core.Path.{◌≡◌, refl, ◌∙◌}
-use Prim.Native.Nat.{◌-◌, ◌*◌}
+use Prim.Native.Nat.{◌*◌}
 use lib.ListN.{length}
 use Rattle.codec.specs.Number.{bytes}
 use Rattle.codec.proofs.Areas.{splice_all}

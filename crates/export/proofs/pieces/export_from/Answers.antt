@@ -1,70 +1,45 @@
 -- `export::pieces::export_from`: a refusal for grounds 1 to 3 as given or for 4 to 6, else the text of what the log holds.
-use mathlib.Core.Path.{◌≡◌, sym, ap, ap₂, ◌∙◌}
-use mathlib.Core.Bool.{true}
+use mathlib.Core.Path.{◌≡◌, refl, ap₂, ◌∙◌}
 use mir.Syntax.{w32}
 use mir.ValLaws.{to_z-of_z}
-use Rattle.lift.specs.Limits.{load_ok, stored}
-use Rattle.lift.proofs.Codes.{within_limits}
+use Rattle.std.proofs.lemmas.Result.{err_from_is_err_and}
+use Rattle.grounds.specs.Numbers.{number_in}
+use Rattle.grounds.proofs.Numbers.{refused}
 use Rattle.bounds.specs.Grounds.{query_ground}
-use Rattle.questions.proofs.Asked.{ground_bounds, ground_query, loads_ok_lem}
-use Rattle.export.specs.declared.pieces.Exported.{Exported}
-use Rattle.export.specs.Inner.Sizing.{answered}
+use Rattle.questions.specs.Queries.{query_of}
+use Rattle.questions.proofs.Asked.{ground_bounds, ground_query}
 use Rattle.export.proofs.Answered.{export_refused, export_done}
-use native.Mathlib.Omega.{arith}
+use Rattle.export.proofs.pieces.export_from.Goals.{After-window}
 use Rattle.export.proofs.pieces.export_from.Goals as goal
 
-pub returns-then-n-ne0 : goal.returns-then-n-ne0
-returns-then-n-ne0 c =
-    λ s slots j e p. ap (λ (r : Exported). answered r c.args.area.now) c.refused.ensures
-    ∙ export_refused c.args.nand.now c.args.nor.now s slots c.args.t1 c.args.t2 c.args.k1 c.args.k2 _ _
-    (ground_bounds c.args.nand.now c.args.nor.now s slots c.args.n j c.args.t1 c.args.t2 c.args.k1 c.args.k2 c.if-n-ne0.true)
-    c.if-n-ne0.true
+-- grounds 4 to 6 are judged by the loads as they are
+window_is : (c : After-window) → number_in c.window.result ≡ query_ground c.args.t1 c.args.t2 c.args.k1 c.args.k2
+window_is c =
+    let a = c.args in
+    c.window.ensures.ground ∙ ap₂ (query_ground a.t1 a.t2) (to_z-of_z w32 a.k1 c.ranges.k1) (to_z-of_z w32 a.k2 c.ranges.k2)
 
-pub returns-then-m-ne0 : goal.returns-then-m-ne0
-returns-then-m-ne0 c =
-    let judged : c.query_ground-m.result ≡ query_ground c.args.t1 c.args.t2 c.args.k1 c.args.k2 = c.query_ground-m.ensures ∙ ap₂ (query_ground c.args.t1 c.args.t2) (to_z-of_z w32 c.args.k1 c.ranges.k1)
-    (to_z-of_z w32 c.args.k2 c.ranges.k2) in
-    λ s slots j e p. ap (λ (r : Exported). answered r c.args.area.now) c.refused-then-m-ne0.ensures
-    ∙ export_refused c.args.nand.now c.args.nor.now s slots c.args.t1 c.args.t2 c.args.k1 c.args.k2 _ _
-    (ground_query c.args.nand.now c.args.nor.now s slots c.args.n j c.args.t1 c.args.t2 c.args.k1 c.args.k2 _ (omega (arith, c.if-n-ne0.false))
-    judged) c.if-m-ne0.true
+pub returns-in_err-judged : goal.returns-in_err-judged
+returns-in_err-judged c =
+    let a = c.args in
+    let r = err_from_is_err_and c.from_residual.result c.from_residual.ensures.1 in
+    λ s slots j e p. rw (r.1, r.2)
+    (export_refused a.nand.now a.nor.now s slots a.t1 a.t2 a.k1 a.k2 _ _
+    (ground_bounds a.nand.now a.nor.now s slots _ (rw c.in_err-judged.was at j) a.t1 a.t2 a.k1 a.k2 (refused _)) (refused _))
 
-pub stored-low-requires : goal.stored-low-requires
-stored-low-requires c =
-    let judged : c.query_ground-m.result ≡ query_ground c.args.t1 c.args.t2 c.args.k1 c.args.k2 = c.query_ground-m.ensures ∙ ap₂ (query_ground c.args.t1 c.args.t2) (to_z-of_z w32 c.args.k1 c.ranges.k1)
-    (to_z-of_z w32 c.args.k2 c.ranges.k2) in
-    let zero : c.query_ground-m.result ≡ 0 = omega (arith, c.if-m-ne0.false) in
-    let loads : let a = c.args in (load_ok a.k1 ≡ true) × (load_ok a.k2 ≡ true) = loads_ok_lem _ _ _ _ (sym judged ∙ zero) in
-    ap load_ok (to_z-of_z w32 c.args.k1 c.ranges.k1) ∙ loads.0
-
-pub stored-high-requires : goal.stored-high-requires
-stored-high-requires c =
-    let judged : c.query_ground-m.result ≡ query_ground c.args.t1 c.args.t2 c.args.k1 c.args.k2 = c.query_ground-m.ensures ∙ ap₂ (query_ground c.args.t1 c.args.t2) (to_z-of_z w32 c.args.k1 c.ranges.k1)
-    (to_z-of_z w32 c.args.k2 c.ranges.k2) in
-    let zero : c.query_ground-m.result ≡ 0 = omega (arith, c.if-m-ne0.false) in
-    let loads : let a = c.args in (load_ok a.k1 ≡ true) × (load_ok a.k2 ≡ true) = loads_ok_lem _ _ _ _ (sym judged ∙ zero) in
-    ap load_ok (to_z-of_z w32 c.args.k2 c.ranges.k2) ∙ loads.1
-
-pub export_in-requires : goal.export_in-requires
-export_in-requires c =
-    let judged : c.query_ground-m.result ≡ query_ground c.args.t1 c.args.t2 c.args.k1 c.args.k2 = c.query_ground-m.ensures ∙ ap₂ (query_ground c.args.t1 c.args.t2) (to_z-of_z w32 c.args.k1 c.ranges.k1)
-    (to_z-of_z w32 c.args.k2 c.ranges.k2) in
-    let zero : c.query_ground-m.result ≡ 0 = omega (arith, c.if-m-ne0.false) in
-    let loads : let a = c.args in (load_ok a.k1 ≡ true) × (load_ok a.k2 ≡ true) = loads_ok_lem _ _ _ _ (sym judged ∙ zero) in
-    let low_is : c.stored-low.result ≡ stored c.args.k1 = c.stored-low.ensures ∙ ap stored (to_z-of_z w32 c.args.k1 c.ranges.k1) in
-    record {
-      log_sound = c.requires.log_sound (omega (arith, c.if-n-ne0.false));
-      page_len = (c.requires.page_len, omega (arith, low_is, (within_limits c.args.k1 loads.0).low));
-    }
+pub returns-in_err-q : goal.returns-in_err-q
+returns-in_err-q c =
+    let a = c.args in
+    let r = err_from_is_err_and c.from_residual-in_err-q.result c.from_residual-in_err-q.ensures.1 in
+    let m = window_is (goal.at.returns-in_err-q c).After-window in
+    λ s slots j e p. rw (r.1, r.2)
+    (export_refused a.nand.now a.nor.now s slots a.t1 a.t2 a.k1 a.k2 _ _
+    (ground_query a.nand.now a.nor.now s slots _ j a.t1 a.t2 a.k1 a.k2 _ (rw c.in_ok-judged.was refl) (rw c.in_err-q.was at m)) (refused _))
 
 pub returns : goal.returns
 returns c =
-    let judged : c.query_ground-m.result ≡ query_ground c.args.t1 c.args.t2 c.args.k1 c.args.k2 = c.query_ground-m.ensures ∙ ap₂ (query_ground c.args.t1 c.args.t2) (to_z-of_z w32 c.args.k1 c.ranges.k1)
-    (to_z-of_z w32 c.args.k2 c.ranges.k2) in
-    let zero : c.query_ground-m.result ≡ 0 = omega (arith, c.if-m-ne0.false) in
-    let low_is : c.stored-low.result ≡ stored c.args.k1 = c.stored-low.ensures ∙ ap stored (to_z-of_z w32 c.args.k1 c.ranges.k1) in
-    let high_is : c.stored-high.result ≡ stored c.args.k2 = c.stored-high.ensures ∙ ap stored (to_z-of_z w32 c.args.k2 c.ranges.k2) in
-    λ s slots j e p. export_done c.args.nand.now c.args.nor.now s slots c.args.t1 c.args.t2 c.args.k1 c.args.k2 _ _
-    (ground_query c.args.nand.now c.args.nor.now s slots c.args.n j c.args.t1 c.args.t2 c.args.k1 c.args.k2 _
-    (omega (arith, c.if-n-ne0.false)) judged) zero _ _ _ _ e p low_is high_is _
-    c.export_in.ensures
+    let a = c.args in
+    let q_is = c.in_ok-q.ensures.is.0 ∙ ap₂ (query_of a.t1 a.t2) (to_z-of_z w32 a.k1 c.ranges.k1) (to_z-of_z w32 a.k2 c.ranges.k2) in
+    let m = window_is (goal.at.returns c).After-window in
+    λ s slots j e p. export_done a.nand.now a.nor.now s slots a.t1 a.t2 a.k1 a.k2 _ _
+    (ground_query a.nand.now a.nor.now s slots _ j a.t1 a.t2 a.k1 a.k2 _ (rw c.in_ok-judged.was refl) m)
+    (rw c.in_ok-q.was refl) _ _ _ e p q_is _ c.export_in.ensures

@@ -1,31 +1,23 @@
--- `import::counted::append_line` meets its contract: a bad record's number, or the append.
+-- `import::counted::append_line` meets its contract: the append of what it tells.
 use mathlib.Core.Path.{◌≡◌, ap, ◌∙◌}
 use lib.IntN.{ℤ}
 use mir.Syntax.{w32, w64}
 use mir.Val.{to_z, of_z}
-use borrow.Author.Tests.{not-true, not-false}
 use Rattle.store.specs.World.{world}
 use Rattle.keeping.specs.Keeping.{append_kept}
 use Rattle.import.proofs.Appends.{append_told_kept_lem}
 use borrow.Author.Rules.{rules}
-use mathlib.Core.Bool.{not}
 use Rattle.import.proofs.counted.append_line.Goals as goal
-
-pub returns-then-not-good : goal.returns-then-not-good
-returns-then-not-good c =
-    let a = c.args in
-    rw (not-true a.l.good (ap not c.if-not-good.true), c.bad_number.ensures, c.first_grounds-n.ensures)
 
 pub returns : goal.returns
 returns c =
     let load_is : to_z w64 (of_z w64 c.args.l.load) ≡ c.args.l.load = search rules in
     let passed : to_z w32 (of_z w32 c.fitted-load.result) ≡ c.fitted-load.result = search rules in
     let a = c.args in
-    let w = world a.nand.now a.nor.now a.s in
+    let w = world a.nand.now a.nor.now a.k.state in
     let f = rw load_is at c.fitted-load.ensures in
-    rw (not-false a.l.good (ap not c.if-not-good.false))
     (c.append.ensures
-    ∙ ap (λ (z : ℤ). append_kept w a.slots a.l.time z c.note_of-note.result a.counts) passed
+    ∙ ap (λ (z : ℤ). append_kept w a.slots a.l.time z c.note_of-note.result a.k.counts) passed
     ∙ append_told_kept_lem w a.slots a.l.time a.l.load c.fitted-load.result a.l.member c.note_of-note.result
-    a.counts f
+    a.k.counts f
     c.note_of-note.ensures)

@@ -5,4 +5,4 @@ use Rattle.import.proofs.counted.first_grounds.Goals as goal
 
 pub returns : goal.returns
 unfolding bounds_ground
-returns c = c.with_ground_3.ensures ∙ rw (c.are_broken.ensures, c.ground-n.ensures)
+returns c = c.with_ground_3.ensures ∙ rw (c.are_broken.ensures, c.ground-plain.ensures)

@@ -1,14 +1,13 @@
 -- `import::counted::import_lines` meets its contract: what is left to import gives what the whole does.
 use mathlib.Core.Path.{refl, ap, ◌∙◌}
-use Prim.Native.Nat.{◌-◌, ◌^◌, ◌<◌}
+use Prim.Native.Nat.{◌^◌, ◌<◌}
 use native.Mathlib.Omega.{arith}
 use lib.ListN.{length}
+use Rattle.grounds.proofs.Numbers.{refused}
 use Rattle.store.specs.World.{world}
 use Rattle.keeping.specs.Keeping.{store, Counted}
-use Rattle.import.specs.declared.counted.ImportedKept.{ImportedKept}
 use Rattle.import.specs.Call.{store_of}
-use Rattle.import.specs.Inner.Lines.{imported}
-use Rattle.import.proofs.Folding.{begins, all_in, ends_here, record_good, goes_in}
+use Rattle.import.proofs.Folding.{begins, all_in, bad_here, ends_here, goes_in}
 use Rattle.import.proofs.Appends.{kept_append_keeps}
 use borrow.Author.Rules.{rules}
 use Rattle.import.proofs.counted.import_lines.Goals as goal
@@ -16,51 +15,32 @@ use Rattle.import.proofs.counted.import_lines.Goals as goal
 pub loop-at-init : goal.loop-at-init
 loop-at-init c = (begins _ _ _ _ _ _ c.requires.0 c.requires.1, refl, refl)
 
-pub line_at-l-requires : goal.line_at-l-requires
-line_at-l-requires c = c.loop-at-test.true
+pub returns-in_default : goal.returns-in_default
+returns-in_default c =
+    rw c.stopped.ensures
+    (bad_here _ _ _ _ _ _ _ _ c.loop-at.invariant.0 c.loop-at-test.true c.in_default.ensures _
+    (rw c.first_grounds-first.ensures at c.bad_record.ensures))
 
-pub shape_of-nand-then-a-ne0 : goal.shape_of-nand-then-a-ne0
-shape_of-nand-then-a-ne0 c = c.append_line-a.auto.nand ∙ c.loop-at.invariant.1
-
-pub shape_of-nor-then-a-ne0 : goal.shape_of-nor-then-a-ne0
-shape_of-nor-then-a-ne0 c = c.append_line-a.auto.nor ∙ c.loop-at.invariant.2
-
-pub returns-then-a-ne0 : goal.returns-then-a-ne0
-returns-then-a-ne0 c =
-    let e = c.append_line-a.ensures in
-    ap (λ (r : ImportedKept). imported r.number r.line (store (world c.append_line-a.new.nand c.append_line-a.new.nor r.state) r.counts)) c.ended.ensures
-    ∙ ends_here _ _ _ _ _ _ _ _ c.loop-at.invariant.0 c.loop-at-test.true _ c.line_at-l.ensures _ _
-    (ap (λ (o : Counted). o.number) e) (ap (λ (o : Counted). store_of o) e) (λ t f. kept_append_keeps _ _ _ _ _ f) c.if-a-ne0.true
+pub returns-in-Err : goal.returns-in-Err
+returns-in-Err c =
+    let e = c.in-Err.ensures in
+    rw c.stopped-in-Err.ensures
+    (ends_here _ _ _ _ _ _ _ _ c.loop-at.invariant.0 c.loop-at-test.true _ c.in-Some.ensures _ _
+    (ap (λ (o : Counted). o.number) e) (ap (λ (o : Counted). store_of o) e) (λ t f. kept_append_keeps _ _ _ _ _ f) (refused c.in-Err.ground))
 
 pub overflow_add-line : goal.overflow_add-line
 overflow_add-line c =
     let text-small : length c.args.text.now < 2 ^ 64 = search rules in
     omega (arith, text-small, c.loop-at.invariant.0.few, c.loop-at-test.true)
 
-pub loop-at-smaller : goal.loop-at-smaller
-loop-at-smaller c =
-    let e = c.append_line-a.ensures in
-    let good = record_good _ _ _ _ _ _ _ _ c.loop-at.invariant.0 c.loop-at-test.true _ c.line_at-l.ensures _ _
-    (ap (λ (o : Counted). o.number) e) (ap (λ (o : Counted). store_of o) e) (omega (arith, c.if-a-ne0.false)) in
-    let r = c.line_at-l.ensures in
-    omega (arith, r.further good, r.inside good, c.loop-at-test.true)
-
 pub loop-at-preserved : goal.loop-at-preserved
 loop-at-preserved c =
-    let e = c.append_line-a.ensures in (
-      goes_in _ _ _ _ _ _ _ _ c.loop-at.invariant.0 c.loop-at-test.true _ c.line_at-l.ensures _ _
-          (ap (λ (o : Counted). o.number) e) (ap (λ (o : Counted). store_of o) e) (omega (arith, c.if-a-ne0.false)),
-      c.append_line-a.auto.nand ∙ c.loop-at.invariant.1,
-      c.append_line-a.auto.nor ∙ c.loop-at.invariant.2,
+    let e = c.in-Ok.ensures in (
+      goes_in _ _ _ _ _ _ _ _ c.loop-at.invariant.0 c.loop-at-test.true _ c.in-Some.ensures _ _
+          (ap (λ (o : Counted). o.number) e) (ap (λ (o : Counted). store_of o) e) refl,
+      c.append_line.auto.nand ∙ c.loop-at.invariant.1,
+      c.append_line.auto.nor ∙ c.loop-at.invariant.2,
     )
 
-pub shape_of-nand : goal.shape_of-nand
-shape_of-nand c = c.loop-at.invariant.1
-
-pub shape_of-nor : goal.shape_of-nor
-shape_of-nor c = c.loop-at.invariant.2
-
 pub returns : goal.returns
-returns c =
-    ap (λ (r : ImportedKept). imported r.number r.line (store (world c.loop-at.nand c.loop-at.nor r.state) r.counts)) c.ended-2.ensures
-    ∙ all_in _ _ _ _ _ _ _ _ c.loop-at.invariant.0 c.loop-at-test.false
+returns c = all_in _ _ _ _ _ _ _ _ c.loop-at.invariant.0 c.loop-at-test.false

@@ -14,7 +14,7 @@ abbrev pub invariant-loop-at : goal.invariant-loop-at
 invariant-loop-at l =
     Imports (ground_kept l.slots) (λ v t. (append_told_kept l.slots v t).number) (λ v t. store_of (append_told_kept l.slots v t)) l.text
     (import_lines (ground_kept l.slots) (λ v t. (append_told_kept l.slots v t).number) (λ v t. store_of (append_told_kept l.slots v t)) 2
-    (lines_of (drop l.from l.text)) (store (world l.initial.nand l.initial.nor l.initial.state) l.initial.kept)) l.at l.line (store (world l.nand l.nor l.state) l.kept)
+    (lines_of (drop l.from l.text)) (store (world l.initial.nand l.initial.nor l.initial.kept.state) l.initial.kept.counts)) l.at l.line (store (world l.nand l.nor l.kept.state) l.kept.counts)
     × (length l.nand ≡ length l.initial.nand) × (length l.nor ≡ length l.initial.nor)
 
 abbrev pub decreases-loop-at : goal.decreases-loop-at

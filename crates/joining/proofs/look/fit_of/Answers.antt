@@ -14,8 +14,8 @@ returns-then-m-s c =
     c.if-t-s.false c.if-t-s-gt-LATER_MOST.false _ _
     c.member_in-m.ensures c.if-m-s.true
 
-pub returns : goal.returns
-returns c =
+pub returns-else-m-s : goal.returns-else-m-s
+returns-else-m-s c =
     made_other _ _ _ c.time_in-t.ensures
     c.if-t-s.false c.if-t-s-gt-LATER_MOST.false _ _
     c.member_in-m.ensures c.if-m-s.false

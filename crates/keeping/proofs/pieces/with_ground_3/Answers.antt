@@ -5,6 +5,6 @@ use Rattle.keeping.proofs.pieces.with_ground_3.Goals as goal
 pub returns-then-broken : goal.returns-then-broken
 returns-then-broken c = rw c.if-broken.true c.sooner.ensures
 
-pub returns : goal.returns
+pub returns-else-broken : goal.returns-else-broken
 unfolding sooner
-returns c = rw c.if-broken.false
+returns-else-broken c = rw c.if-broken.false

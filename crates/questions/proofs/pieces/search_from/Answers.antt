@@ -1,74 +1,37 @@
--- `pieces::search_from`: a refusal for grounds 1 to 3 as given or for 4 to 6, else what the log holds.
-use mathlib.Core.Path.{◌≡◌, sym, ap, ap₂, ◌∙◌}
-use mathlib.Core.Bool.{true}
-use mathlib.Core.List.{List}
-use Prim.Native.Nat.{ℕ}
+-- `pieces::search_from`: a refusal by grounds 1 to 3 as given or by 4 to 6, else what the log holds.
+use mathlib.Core.Path.{◌≡◌, refl}
 use mir.Syntax.{w32}
 use mir.ValLaws.{to_z-of_z}
-use Rattle.lift.specs.Limits.{load_ok, stored}
-use Rattle.lift.proofs.Codes.{within_limits}
-use Rattle.bounds.specs.Grounds.{query_ground}
-use Rattle.search.specs.declared.Found.{Found}
-use Rattle.search.specs.Answers.{SearchAnswer}
-use Rattle.questions.proofs.Asked.{ground_bounds, ground_query, loads_ok_lem, search_refused, search_done}
-use native.Mathlib.Omega.{arith}
+use Rattle.std.specs.Prelude.{Err}
+use Rattle.questions.proofs.Asked.{search_stopped, search_barred, search_done}
+use borrow.Author.Rules.{rules}
 use Rattle.questions.proofs.pieces.search_from.Goals as goal
 
--- a refusal, as the code has it
-refusal : Found → List ℕ → SearchAnswer
-refusal f area = record { number = f.number; count = f.count; pages = f.pages; area = area }
+pub returns-in_err-judged : goal.returns-in_err-judged
+returns-in_err-judged c =
+    let r : c.from_residual.result ≡ Err c.in_err-judged.field-0.0 = search rules in
+    λ s slots j e p. rw r (search_stopped c.args.nand.now c.args.nor.now s slots c.args.t1 c.args.t2 c.args.k1 c.args.k2 c.args.area.now _
+    (rw c.in_err-judged.was at j))
 
-pub returns-then-n-ne0 : goal.returns-then-n-ne0
-unfolding refusal
-returns-then-n-ne0 c =
-    λ s slots j e p. ap (λ (f : Found). refusal f c.args.area.now) c.refused.ensures
-    ∙ search_refused c.args.nand.now c.args.nor.now s slots c.args.t1 c.args.t2 c.args.k1 c.args.k2 _ _
-    (ground_bounds c.args.nand.now c.args.nor.now s slots c.args.n j c.args.t1 c.args.t2 c.args.k1 c.args.k2 c.if-n-ne0.true)
-    c.if-n-ne0.true
-
-pub returns-then-m-ne0 : goal.returns-then-m-ne0
-unfolding refusal
-returns-then-m-ne0 c =
-    let judged : c.query_ground-m.result ≡ query_ground c.args.t1 c.args.t2 c.args.k1 c.args.k2 = c.query_ground-m.ensures ∙ ap₂ (query_ground c.args.t1 c.args.t2) (to_z-of_z w32 c.args.k1 c.ranges.k1)
-    (to_z-of_z w32 c.args.k2 c.ranges.k2) in
-    λ s slots j e p. ap (λ (f : Found). refusal f c.args.area.now) c.refused-then-m-ne0.ensures
-    ∙ search_refused c.args.nand.now c.args.nor.now s slots c.args.t1 c.args.t2 c.args.k1 c.args.k2 _ _
-    (ground_query c.args.nand.now c.args.nor.now s slots c.args.n j c.args.t1 c.args.t2 c.args.k1 c.args.k2 _ (omega (arith, c.if-n-ne0.false))
-    judged) c.if-m-ne0.true
-
-pub stored-low-requires : goal.stored-low-requires
-stored-low-requires c =
-    let judged : c.query_ground-m.result ≡ query_ground c.args.t1 c.args.t2 c.args.k1 c.args.k2 = c.query_ground-m.ensures ∙ ap₂ (query_ground c.args.t1 c.args.t2) (to_z-of_z w32 c.args.k1 c.ranges.k1)
-    (to_z-of_z w32 c.args.k2 c.ranges.k2) in
-    let zero : c.query_ground-m.result ≡ 0 = omega (arith, c.if-m-ne0.false) in
-    let loads : let a = c.args in (load_ok a.k1 ≡ true) × (load_ok a.k2 ≡ true) = loads_ok_lem _ _ _ _ (sym judged ∙ zero) in
-    ap load_ok (to_z-of_z w32 c.args.k1 c.ranges.k1) ∙ loads.0
-
-pub stored-high-requires : goal.stored-high-requires
-stored-high-requires c =
-    let judged : c.query_ground-m.result ≡ query_ground c.args.t1 c.args.t2 c.args.k1 c.args.k2 = c.query_ground-m.ensures ∙ ap₂ (query_ground c.args.t1 c.args.t2) (to_z-of_z w32 c.args.k1 c.ranges.k1)
-    (to_z-of_z w32 c.args.k2 c.ranges.k2) in
-    let zero : c.query_ground-m.result ≡ 0 = omega (arith, c.if-m-ne0.false) in
-    let loads : let a = c.args in (load_ok a.k1 ≡ true) × (load_ok a.k2 ≡ true) = loads_ok_lem _ _ _ _ (sym judged ∙ zero) in
-    ap load_ok (to_z-of_z w32 c.args.k2 c.ranges.k2) ∙ loads.1
+pub returns-in_err-q : goal.returns-in_err-q
+returns-in_err-q c =
+    let r : c.from_residual-in_err-q.result ≡ Err c.in_err-q.field-0.0 = search rules in
+    let k1 = to_z-of_z w32 c.args.k1 c.ranges.k1 in
+    let k2 = to_z-of_z w32 c.args.k2 c.ranges.k2 in
+    let g = rw (k1, k2, c.in_err-q.was) at c.window.ensures.ground in
+    λ s slots j e p. rw r (search_barred c.args.nand.now c.args.nor.now s slots c.args.t1 c.args.t2 c.args.k1 c.args.k2 c.args.area.now
+    (rw c.in_ok-judged.was at j) _ g)
 
 pub search_in-requires : goal.search_in-requires
 search_in-requires c =
-    let judged : c.query_ground-m.result ≡ query_ground c.args.t1 c.args.t2 c.args.k1 c.args.k2 = c.query_ground-m.ensures ∙ ap₂ (query_ground c.args.t1 c.args.t2) (to_z-of_z w32 c.args.k1 c.ranges.k1)
-    (to_z-of_z w32 c.args.k2 c.ranges.k2) in
-    let zero : c.query_ground-m.result ≡ 0 = omega (arith, c.if-m-ne0.false) in
-    let loads : let a = c.args in (load_ok a.k1 ≡ true) × (load_ok a.k2 ≡ true) = loads_ok_lem _ _ _ _ (sym judged ∙ zero) in
-    let low_is : c.stored-low.result ≡ stored c.args.k1 = c.stored-low.ensures ∙ ap stored (to_z-of_z w32 c.args.k1 c.ranges.k1) in
-    record { log_sound = c.requires.log_sound (omega (arith, c.if-n-ne0.false)); page_len = c.requires.page_len; le_k1 = omega (arith, low_is, (within_limits c.args.k1 loads.0).low) }
+    let q = rw c.in_ok-q.was at c.window.ensures.is in
+    record { log_sound = (rw c.in_ok-judged.was at c.requires.log_sound) refl; page_len = c.requires.page_len; le_k1 = q.1 }
 
 pub returns : goal.returns
 returns c =
-    let judged : c.query_ground-m.result ≡ query_ground c.args.t1 c.args.t2 c.args.k1 c.args.k2 = c.query_ground-m.ensures ∙ ap₂ (query_ground c.args.t1 c.args.t2) (to_z-of_z w32 c.args.k1 c.ranges.k1)
-    (to_z-of_z w32 c.args.k2 c.ranges.k2) in
-    let zero : c.query_ground-m.result ≡ 0 = omega (arith, c.if-m-ne0.false) in
-    let low_is : c.stored-low.result ≡ stored c.args.k1 = c.stored-low.ensures ∙ ap stored (to_z-of_z w32 c.args.k1 c.ranges.k1) in
-    let high_is : c.stored-high.result ≡ stored c.args.k2 = c.stored-high.ensures ∙ ap stored (to_z-of_z w32 c.args.k2 c.ranges.k2) in
-    λ s slots j e p. search_done c.args.nand.now c.args.nor.now s slots c.args.t1 c.args.t2 c.args.k1 c.args.k2 _ _
-    (ground_query c.args.nand.now c.args.nor.now s slots c.args.n j c.args.t1 c.args.t2 c.args.k1 c.args.k2 _
-    (omega (arith, c.if-n-ne0.false)) judged) zero _ _ _ _ e p low_is high_is _
-    c.search_in.ensures
+    let k1 = to_z-of_z w32 c.args.k1 c.ranges.k1 in
+    let k2 = to_z-of_z w32 c.args.k2 c.ranges.k2 in
+    let g = rw (k1, k2, c.in_ok-q.was) at c.window.ensures.ground in
+    let q = rw (k1, k2, c.in_ok-q.was) at c.window.ensures.is in
+    λ s slots j e p. search_done c.args.nand.now c.args.nor.now s slots c.args.t1 c.args.t2 c.args.k1 c.args.k2 c.args.area.now
+    (rw c.in_ok-judged.was at j) g _ _ _ e p q.0 _ c.search_in.ensures

@@ -1,12 +1,14 @@
--- `any_late`: one pointer after the other.
-use mathlib.Core.Path.{◌≡◌}
-use lib.ListN.{length}
-use Rattle.retained.proofs.Seeking.{four_late}
-use borrow.Author.Rules.{rules}
+-- `any_late`: what is left to look at answers as the whole does.
+use Rattle.std.proofs.Common.{◌∙◌, arith}
+use Rattle.skiplist.specs.Skip.{none}
+use Rattle.retained.proofs.Seeking.{late_here, late_later, late_none}
 use Rattle.retained.proofs.headers.any_late.Goals as goal
 
+pub returns-then-is_late : goal.returns-then-is_late
+returns-then-is_late c = late_here c.args.oldest c.args.first c.loop-q.q-index c.args.p _ (omega arith) _ c.is_late.ensures c.if-is_late.true ∙ c.loop-q.invariant
+
+pub loop-q-preserved : goal.loop-q-preserved
+loop-q-preserved c = late_later c.args.oldest c.args.first c.loop-q.q-index c.args.p _ (omega arith) _ c.is_late.ensures c.if-is_late.false ∙ c.loop-q.invariant
+
 pub returns : goal.returns
-returns c =
-    let long : length c.args.p ≡ 4 = search rules in
-    four_late c.args.oldest c.args.first c.args.p _ _ _ _ _ long c.is_late-a.ensures c.is_late-b.ensures
-    c.is_late-c.ensures c.is_late-d.ensures
+returns c = late_none c.args.oldest c.args.first c.loop-q.q-index c.args.p none (omega arith) ∙ c.loop-q.invariant

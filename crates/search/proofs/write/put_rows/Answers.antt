@@ -1,46 +1,35 @@
--- `search::write::put_rows` meets its contract: the rows written and those of the rest come to all.
-use mathlib.Core.Path.{refl}
-use Rattle.visit.proofs.Emptying.{recorded_at, emptied_less}
-use Rattle.search.proofs.Written.{puts_over, puts_below, puts_room, puts_more}
-use native.Mathlib.Omega.{arith}
+-- `search::write::put_rows` meets its contract: the rows written and those of the places left come to all.
+use Rattle.std.proofs.Common.{◌≡◌, ◌+◌, [], ◌∷◌, rules}
+use Rattle.visit.proofs.Emptying.{recorded_at}
+use Rattle.bitset.specs.Inner.Words.{members}
+use Rattle.bitset.specs.Inner.Emptying.{places_left}
+use Rattle.search.proofs.Written.{puts_begin, puts_over, puts_below, puts_room, puts_more}
 use Rattle.search.proofs.write.put_rows.Goals as goal
 
-pub loop-g-init : goal.loop-g-init
-loop-g-init c =
-    record { below = c.requires.below; room = c.requires.record_width_in_bounds; long = refl; leads = refl }
-
-pub shape_of-area-then-not-found : goal.shape_of-area-then-not-found
-shape_of-area-then-not-found c = c.loop-g.invariant.long
-
-pub returns-then-not-found : goal.returns-then-not-found
-returns-then-not-found c =
-    puts_over _ _ _ c.requires.recorded _ _ _ _ _ c.loop-g.invariant _
-    c.next-n.ensures.0 c.if-not-found.true
+pub loop-i-init : goal.loop-i-init
+loop-i-init c =
+    let all : places_left c.into_iter-i-iterator.result.iter ≡ members c.args.set.words = search rules in
+    let first : c.args.row + c.into_iter-i-iterator.result.count ≡ c.args.row = search rules in
+    rw (all, first) (puts_begin _ _ _ _ _ _ c.requires.below c.requires.record_width_in_bounds)
 
 pub put_row-requires : goal.put_row-requires
 put_row-requires c =
-    let found = c.if-not-found.false in
-    let below = puts_below _ _ _ c.requires.recorded _ _ _ _ _
-    c.loop-g.invariant _ c.next-n.ensures.0 found in
+    let more : places_left c.loop-i.i-iterator.iter ≡ c.in-Some.p ∷ places_left c.next.new.self.iter = search rules in
+    let at : c.in-Some.i ≡ c.loop-i.i-iterator.count = search rules in
+    let below = puts_below _ _ _ c.requires.recorded _ _ _ _ _ c.loop-i.invariant _ _ more in
     record {
-      record_width_in_bounds = recorded_at _ _ c.args.g _
-          c.requires.recorded below;
-      record_width_in_bounds_2 = puts_room _ _ _
-          c.requires.recorded _ _ _ _ _ c.loop-g.invariant _
-          c.next-n.ensures.0 found;
+      record_width_in_bounds = recorded_at _ _ c.args.g _ c.requires.recorded below;
+      record_width_in_bounds_2 = rw at (puts_room _ _ _ c.requires.recorded _ _ _ _ _ c.loop-i.invariant _ _ more);
     }
 
-pub overflow_add-to : goal.overflow_add-to
-overflow_add-to c = omega (arith, c.loop-g.invariant.room)
+pub loop-i-preserved : goal.loop-i-preserved
+loop-i-preserved c =
+    let more : places_left c.loop-i.i-iterator.iter ≡ c.in-Some.p ∷ places_left c.next.new.self.iter = search rules in
+    let at : c.in-Some.i ≡ c.loop-i.i-iterator.count = search rules in
+    let on : c.args.row + c.next.new.self.count ≡ c.args.row + c.loop-i.i-iterator.count + 1 = search rules in
+    rw on (puts_more _ _ _ c.requires.recorded _ _ _ _ _ c.loop-i.invariant _ _ more _ (rw at at c.put_row.ensures))
 
-pub loop-g-smaller : goal.loop-g-smaller
-loop-g-smaller c =
-    emptied_less _ _ c.next-n.ensures.0
-    c.if-not-found.false
-
-pub loop-g-preserved : goal.loop-g-preserved
-loop-g-preserved c =
-    puts_more _ _ _ c.requires.recorded _ _ _ _ _
-    c.loop-g.invariant _
-    c.next-n.ensures.0
-    c.if-not-found.false _ c.put_row.ensures
+pub returns : goal.returns
+returns c =
+    let over : places_left c.loop-i.i-iterator.iter ≡ [] = search rules in
+    puts_over _ _ _ c.requires.recorded _ _ _ _ _ c.loop-i.invariant over

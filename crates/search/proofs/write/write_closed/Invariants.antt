@@ -6,10 +6,11 @@ use Rattle.search.specs.Inner.Turns.{written_in}
 use Rattle.search.proofs.Written.{WriteGoes}
 use Rattle.search.proofs.write.write_closed.Given as goal
 
-abbrev pub invariant-loop-q : goal.invariant-loop-q
-invariant-loop-q l =
+abbrev pub invariant-loop-s : goal.invariant-loop-s
+invariant-loop-s l =
     let live = serials_from l.oldest in
-    WriteGoes l.nand l.slots live l.q (written_in l.initial.area (rows_after l.nand l.slots live l.q l.initial.w.c)) (length l.initial.area) l.area l.w
+    WriteGoes l.nand l.slots live l.q (written_in l.initial.area (rows_after l.nand l.slots live l.q l.initial.at)) (length l.initial.area)
+    l.area l.at l.end
 
-abbrev pub decreases-loop-q : goal.decreases-loop-q
-decreases-loop-q l = l.w.c.before
+abbrev pub decreases-loop-s : goal.decreases-loop-s
+decreases-loop-s l = l.at.before

@@ -8,8 +8,8 @@ returns-then-plate-eq0 c =
     blank_put c.args.out.now e.new.out c.args.at e.result c.args.sum c.args.above c.args.plate c.requires.0
     e.ensures.1 c.if-plate-eq0.true e.ensures.0 e.auto.out
 
-pub returns : goal.returns
-returns c =
+pub returns-else-plate-eq0 : goal.returns-else-plate-eq0
+returns-else-plate-eq0 c =
     let e = c.put_end in
     plate_put c.args.out.now e.new.out c.args.at e.result c.args.sum c.args.above c.args.plate c.requires.0
     e.ensures.1 c.if-plate-eq0.false e.ensures.0

@@ -1,8 +1,6 @@
 -- `stack_list::reading::read_list` meets its contract. The invariant: the lines left, judged with the counts so far, decide about the text.
-use Prim.Native.Nat.{◌-◌}
-use Rattle.std.proofs.lemmas.Bool.{not-true, not-false}
-use Rattle.stack_list.proofs.ReadTurns.{reading_first, end_at, end_within, next_place, stops, room_left, reading_on, list_read, none_in_last}
-use native.Mathlib.Omega.{arith}
+use Rattle.std.proofs.Common.{arith}
+use Rattle.stack_list.proofs.ReadTurns.{reading_first, end_at, end_within, stops, room_left, reading_on, list_read, none_in_last}
 use Rattle.stack_list.proofs.reading.read_list.Goals as goal
 
 pub loop-at-init : goal.loop-at-init
@@ -22,41 +20,27 @@ slice_bounds-read_line-end c =
     let e = end_at t c.loop-at.at h _ c.line_length.ensures in
     omega (arith, end_within t c.loop-at.at h)
 
-pub returns-then-not-r : goal.returns-then-not-r
-returns-then-not-r c =
+pub returns-in_err-r : goal.returns-in_err-r
+returns-in_err-r c =
     let h = c.loop-at-test.true in
-    stops _ _ _ _ _ _ _ c.loop-at.invariant c.requires h _ (end_at _ _ h _ c.line_length.ensures) _ c.read_line-r.ensures (not-true _ c.if-not-r.true)
-
-pub offset_bounds-numbers-lines : goal.offset_bounds-numbers-lines
-offset_bounds-numbers-lines c =
-    omega (arith, c.loop-at.invariant.room, c.loop-at.invariant.few, c.loop-at.invariant.low)
+    rw c.from_residual.ensures
+    (stops _ _ _ _ _ _ _ c.loop-at.invariant c.requires h _ (end_at _ _ h _ c.line_length.ensures) c.in_err-r.ensures)
 
 pub bounds-numbers-lines : goal.bounds-numbers-lines
 bounds-numbers-lines c =
     let h = c.loop-at-test.true in
-    room_left _ _ _ _ _ _ _ c.loop-at.invariant c.requires h _ (end_at _ _ h _ c.line_length.ensures) _ c.read_line-r.ensures (not-false _ c.if-not-r.false)
-
-pub overflow_add-lines : goal.overflow_add-lines
-overflow_add-lines c =
-    omega (arith, c.loop-at.invariant.room, c.loop-at.invariant.few, c.loop-at.invariant.low)
-
-pub loop-at-smaller : goal.loop-at-smaller
-loop-at-smaller c =
-    let t = c.args.text.now in
-    let h = c.loop-at-test.true in
-    let p = next_place t c.loop-at.at h _ (end_at t c.loop-at.at h _ c.line_length.ensures) in
-    omega (arith, c.after_line-at.ensures)
+    room_left _ _ _ _ _ _ _ c.loop-at.invariant c.requires h _ (end_at _ _ h _ c.line_length.ensures) _ c.in_ok-r.ensures
 
 pub loop-at-preserved : goal.loop-at-preserved
 loop-at-preserved c =
     let h = c.loop-at-test.true in
-    reading_on _ _ _ _ _ _ _ c.loop-at.invariant c.requires h _ (end_at _ _ h _ c.line_length.ensures) _ c.read_line-r.ensures (not-false _ c.if-not-r.false) _
+    reading_on _ _ _ _ _ _ _ c.loop-at.invariant c.requires h _ (end_at _ _ h _ c.line_length.ensures) _ c.in_ok-r.ensures _
     c.after_line-at.ensures
 
 pub returns-then-plates-eq0 : goal.returns-then-plates-eq0
 returns-then-plates-eq0 c =
     none_in_last _ _ _ _ _ _ _ c.loop-at.invariant c.requires c.loop-at-test.false c.if-plates-eq0.true
 
-pub returns : goal.returns
-returns c =
+pub returns-else-plates-eq0 : goal.returns-else-plates-eq0
+returns-else-plates-eq0 c =
     list_read _ _ _ _ _ _ _ c.loop-at.invariant c.requires c.loop-at-test.false c.if-plates-eq0.false

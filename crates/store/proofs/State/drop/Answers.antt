@@ -1,30 +1,29 @@
 -- `drop`: a refusal for each test, else the oldest closed segment is erased.
-use mathlib.Core.Path.{◌≡◌}
+use mathlib.Core.Path.{refl}
+use native.Mathlib.Omega.{arith}
+use Rattle.std.proofs.lemmas.Result.{err_from_is_err_and}
+use Rattle.grounds.proofs.Numbers.{refused}
 use Rattle.store.proofs.Outcomes.{drop_bounds, drop_none, drop_done}
 use Rattle.store.proofs.Grounds.{standing_judged}
-use native.Mathlib.Omega.{arith}
 use Rattle.store.proofs.State.drop.Goals as goal
 
-pub returns-then-n-ne0 : goal.returns-then-n-ne0
-returns-then-n-ne0 c =
+pub returns-in_err-ground : goal.returns-in_err-ground
+returns-in_err-ground c =
     let a = c.args in
-    drop_bounds a.nand.now a.nor.now _ _ _ c.ground-n.ensures c.if-n-ne0.true
+    let p = err_from_is_err_and c.from_residual.result c.from_residual.ensures.1 in
+    rw (p.1, p.2) (drop_bounds a.nand.now a.nor.now _ _ _ c.in_err-ground.ensures (refused _))
 
 pub returns-then-self : goal.returns-then-self
 returns-then-self c =
-    let zero : c.ground-n.result ≡ 0 = omega (arith, c.if-n-ne0.false) in
     let a = c.args in
-    drop_none a.nand.now a.nor.now _ _ _ c.ground-n.ensures zero c.if-self.true
+    drop_none a.nand.now a.nor.now _ _ _ c.in_ok-ground.ensures refl c.if-self.true
 
-pub dropped-s-requires : goal.dropped-s-requires
-dropped-s-requires c =
-    let zero : c.ground-n.result ≡ 0 = omega (arith, c.if-n-ne0.false) in
-    let st = standing_judged _ _ _ _ _ c.ground-n.ensures zero in
+pub dropped-requires : goal.dropped-requires
+dropped-requires c =
+    let st = standing_judged _ _ _ _ _ c.in_ok-ground.ensures refl in
     (st.chips.nand_size, omega (arith, st.chips.least), st.serials.first, omega (arith, st.serials.rising, c.if-self.false))
 
-pub returns : goal.returns
-returns c =
-    let zero : c.ground-n.result ≡ 0 = omega (arith, c.if-n-ne0.false) in
+pub returns-else-self : goal.returns-else-self
+returns-else-self c =
     let a = c.args in
-    drop_done a.nand.now a.nor.now _ _ _ c.ground-n.ensures zero _ _ c.if-self.false c.dropped-s.ensures.0
-    c.dropped-s.ensures.1
+    drop_done a.nand.now a.nor.now _ _ _ c.in_ok-ground.ensures refl _ _ c.if-self.false c.dropped.ensures.0 c.dropped.ensures.1

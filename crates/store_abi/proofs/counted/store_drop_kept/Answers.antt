@@ -18,6 +18,6 @@ pub returns : goal.returns
 unfolding drop_kept_called
 returns c =
     let a = c.args in
-    given_kept a.state.now a.counts.now a.nand.now a.nor.now _ c.if-state-ne-STATE_BYTES.false c.if-counts-ne-COUNTS_BYTES.false _ _ _ _ _ _ _ _ c.keep_counted.ensures.number c.keep_counted.ensures.state c.keep_counted.ensures.counts
-    (c.drop-a.ensures
+    given_kept a.state.now a.counts.now a.nand.now a.nor.now _ c.if-state-ne-STATE_BYTES.false c.if-counts-ne-COUNTS_BYTES.false _ _ _ _ _ _ _ _ c.keep_counted.ensures.number (c.keep_counted.ensures.state c.get_state-s.result) (c.keep_counted.ensures.counts c.get_counts-c.result)
+    (c.drop-r.ensures
     ∙ ap₂ {C = Counted} (λ s n. drop_kept (world a.nand.now a.nor.now s) a.slots n) c.get_state-s.ensures c.get_counts-c.ensures)

@@ -3,7 +3,6 @@ use mathlib.Core.Path.{◌∙◌}
 use Rattle.areas.specs.Areas.{import_kept_called}
 use Rattle.areas.proofs.Leaves.{state_wrong, answer_wrong, both_right}
 use Rattle.store_abi.proofs.TextLeft.{import_left, third_wrong, third_right}
-use native.Mathlib.Omega.{arith}
 use Rattle.store_abi.proofs.texts.store_import_kept.Goals as goal
 
 pub returns-then-state-ne-STATE_BYTES : goal.returns-then-state-ne-STATE_BYTES
@@ -18,15 +17,15 @@ pub returns-then-answer-ne-NUMBER_BYTES : goal.returns-then-answer-ne-NUMBER_BYT
 unfolding import_kept_called
 returns-then-answer-ne-NUMBER_BYTES c = third_wrong _ _ _ c.if-answer-ne-NUMBER_BYTES.true ∙ both_right _ _ 88 _ _ c.if-state-ne-STATE_BYTES.false c.if-counts-ne-COUNTS_BYTES.false
 
-pub import-e-requires : goal.import-e-requires
-import-e-requires c = (c.if-state-ne-STATE_BYTES.false, c.if-counts-ne-COUNTS_BYTES.false)
+pub import-end-requires : goal.import-end-requires
+import-end-requires c = (c.if-state-ne-STATE_BYTES.false, c.if-counts-ne-COUNTS_BYTES.false)
 
-pub put_u64-requires : goal.put_u64-requires
-put_u64-requires c = omega (arith, c.if-answer-ne-NUMBER_BYTES.false)
+pub put_line-requires : goal.put_line-requires
+put_line-requires c = c.if-answer-ne-NUMBER_BYTES.false
 
 pub returns : goal.returns
 unfolding import_kept_called
 returns c =
-    import_left _ _ _ _ _ _ c.import-e.ensures c.if-answer-ne-NUMBER_BYTES.false c.put_u64.ensures
+    rw c.put_line.ensures.number (import_left _ _ _ _ _ _ c.import-end.ensures c.if-answer-ne-NUMBER_BYTES.false c.put_line.ensures.line)
     ∙ third_right _ _ _ c.if-answer-ne-NUMBER_BYTES.false
     ∙ both_right _ _ 88 _ _ c.if-state-ne-STATE_BYTES.false c.if-counts-ne-COUNTS_BYTES.false

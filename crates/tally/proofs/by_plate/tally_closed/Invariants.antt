@@ -5,10 +5,10 @@ use Rattle.tally.specs.Inner.Turns.{tally_of}
 use Rattle.tally.proofs.PlateTurns.{TallyGoes}
 use Rattle.tally.proofs.by_plate.tally_closed.Given as goal
 
-abbrev pub invariant-loop-q : goal.invariant-loop-q
-invariant-loop-q l =
+abbrev pub invariant-loop-s : goal.invariant-loop-s
+invariant-loop-s l =
     let live = serials_from l.oldest in
-    TallyGoes l.nand l.slots live l.q (tally_of l.initial.r.n.counts (rows_after l.nand l.slots live l.q l.initial.r.c)) l.initial.r.c.before l.r
+    TallyGoes l.nand l.slots live l.q (tally_of l.initial.counts (rows_after l.nand l.slots live l.q l.initial.at)) l.initial.at.before l.at l.counts
 
-abbrev pub decreases-loop-q : goal.decreases-loop-q
-decreases-loop-q l = l.r.c.before
+abbrev pub decreases-loop-s : goal.decreases-loop-s
+decreases-loop-s l = l.at.before

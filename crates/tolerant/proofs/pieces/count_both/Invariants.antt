@@ -5,10 +5,10 @@ use Rattle.each_segment.specs.Inner.Turns.{turns_left, rows_left}
 use Rattle.tolerant.proofs.Counting.{Counts}
 use Rattle.tolerant.proofs.pieces.count_both.Given as goal
 
-abbrev pub invariant-loop-g : goal.invariant-loop-g
-invariant-loop-g l =
-    Counts l.nand l.g.slots (serials_from l.g.oldest) l.q l.page l.e (rows_left l.nand l.g.slots (serials_from l.g.oldest) l.q l.page l.initial.t) (l.g.current + 1) l.t
-    l.certain l.possible
+abbrev pub invariant-loop-turn : goal.invariant-loop-turn
+invariant-loop-turn l =
+    Counts l.nand l.g.slots (serials_from l.g.oldest) l.q l.page l.e
+    (rows_left l.nand l.g.slots (serials_from l.g.oldest) l.q l.page l.initial.turn) (l.g.current + 1) l.turn l.certain l.possible
 
-abbrev pub decreases-loop-g : goal.decreases-loop-g
-decreases-loop-g l = turns_left l.t
+abbrev pub decreases-loop-turn : goal.decreases-loop-turn
+decreases-loop-turn l = turns_left l.turn

@@ -1,22 +1,17 @@
 -- `tolerant::pieces::pick_certain` meets its contract: the rows picked and those that are left come to the whole.
 use mathlib.Core.Path.{sym, ◌∙◌}
-use Prim.Native.Nat.{◌-◌}
 use native.Mathlib.Omega.{arith}
-use Rattle.tolerant.proofs.Picking.{picks_none, picks_over, row_inside, picks_out, row_room, picks_in}
+use Rattle.tolerant.proofs.Picking.{picks_none, picks_over, picks_out, row_room, picks_in}
 use Rattle.tolerant.proofs.pieces.pick_certain.Goals.{then-is_between, else-is_between}
 use Rattle.tolerant.proofs.pieces.pick_certain.Goals as goal
 
 pub loop-i-init : goal.loop-i-init
 loop-i-init c = picks_none _ _ _ _ c.requires.record_width_in_bounds_2
 
-pub put_row-requires : goal.put_row-requires
-put_row-requires c =
-    let h = c.loop-i-test.true in
-    let p = c.loop-i.invariant in
-    record {
-      record_width_in_bounds = row_inside _ _ c.args.e c.requires.record_width_in_bounds _ _ _ _ _ p h;
-      record_width_in_bounds_2 = row_room _ _ _ c.requires.record_width_in_bounds _ _ _ _ _ p h _ c.code_in-code.ensures (sym c.is_between.ensures ∙ c.if-is_between.true);
-    }
+pub put_row-requires-clause-record_width_in_bounds_2 : goal.put_row-requires-clause-record_width_in_bounds_2
+put_row-requires-clause-record_width_in_bounds_2 c =
+    row_room _ _ _ c.requires.record_width_in_bounds _ _ _ _ _ c.loop-i.invariant c.loop-i-test.true _ c.code_in-code.ensures
+    (sym c.is_between.ensures ∙ c.if-is_between.true)
 
 pub loop-i-preserved : goal.loop-i-preserved
 loop-i-preserved c =
@@ -28,9 +23,6 @@ loop-i-preserved c =
       | else-is_between w ↦ picks_out _ _ _ c.requires.record_width_in_bounds _ _ _ _ _ p h _ c.code_in-code.ensures (sym c.is_between.ensures ∙ w.if-is_between.false) _ _ w.certain-is
           w.to-is
     ]
-
-pub shape_of-certain : goal.shape_of-certain
-shape_of-certain c = c.loop-i.invariant.long
 
 pub returns : goal.returns
 returns c =

@@ -1,5 +1,4 @@
 -- `tolerant::pieces::pick_certain` meets its contract: the rows picked and those that are left come to the whole.
-use Prim.Native.Nat.{◌-◌}
 use lib.ListN.{length}
 use Rattle.codec.specs.Area.{splice}
 use Rattle.search.specs.Answers.{row_bytes}
@@ -11,6 +10,3 @@ use Rattle.tolerant.proofs.pieces.pick_certain.Given as goal
 abbrev pub invariant-loop-i : goal.invariant-loop-i
 invariant-loop-i l =
     Picks l.possible l.rows l.e (splice l.initial.certain 0 (row_bytes (rows_in_ends l.e (rows_in l.possible 0 l.rows)))) (length l.initial.certain) l.certain l.i l.to
-
-abbrev pub decreases-loop-i : goal.decreases-loop-i
-decreases-loop-i l = l.rows - l.i

@@ -1,9 +1,0 @@
--- Columns stay at most 13.
-use Prim.Native.Nat.{◌-◌, ◌≤◌}
-use Rattle.call_counts.proofs.print.columns.Given as goal
-
-abbrev pub invariant-loop-i : goal.invariant-loop-i
-invariant-loop-i g l = l.i ≤ 13
-
-abbrev pub decreases-loop-i : goal.decreases-loop-i
-decreases-loop-i g l = 13 - l.i

@@ -1,9 +1,0 @@
--- Bytes stay below n.
-use Rattle.std.proofs.Common.{◌-◌, ◌≤◌}
-use Rattle.case_print.proofs.digest.of_first.Given as goal
-
-abbrev pub invariant-loop-i : goal.invariant-loop-i
-invariant-loop-i l = l.i ≤ l.n
-
-abbrev pub decreases-loop-i : goal.decreases-loop-i
-decreases-loop-i l = l.n - l.i

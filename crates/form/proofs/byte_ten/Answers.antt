@@ -1,8 +1,0 @@
--- `byte_ten`: by the form.
-use Rattle.form.proofs.byte_ten.Goals as goal
-
-pub returns-in-Old : goal.returns-in-Old
-returns-in-Old c = rw c.in-Old.is
-
-pub returns-in-New : goal.returns-in-New
-returns-in-New c = rw c.in-New.is

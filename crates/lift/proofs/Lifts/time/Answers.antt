@@ -1,0 +1,11 @@
+-- `lift::Lifts::time` meets its contract: it is read in the record.
+use mathlib.Core.Path.{◌∙◌}
+use native.Mathlib.Omega.{arith}
+use Rattle.lift.proofs.Rows.{time_of_record}
+use Rattle.lift.proofs.Lifts.time.Goals as goal
+
+pub returns : goal.returns
+returns c =
+    let s = c.args.self in
+    c.record_time.ensures
+    ∙ rw c.record.ensures.is (time_of_record s.pages.now s.tail.now s.first c.args.p (omega arith) (omega arith))
