@@ -1,5 +1,5 @@
--- The lowest place: trailing zeros find it, and the set without it has the other places.
-use mathlib.Core.Path.{◌≡◌, sym, ap, ◌∙◌}
+-- The lowest place: trailing zeros find it, and the set without it has the other places. `next_of` takes it off the set's places.
+use mathlib.Core.Path.{subst, ◌≡◌, refl, sym, ap, ◌∙◌}
 use mathlib.Core.Bool.{true, false, not, ◌&&◌}
 use mathlib.Core.List.{List, [], ◌∷◌, ◌++◌}
 use Prim.Native.Nat.{ℕ, suc, ◌+◌, ◌-◌, ◌*◌, ◌/◌, ◌%◌, ◌^◌, ◌<◌}
@@ -9,8 +9,11 @@ use lib.Count.{count_trailing_zeros, trailing_le}
 use lib.Dec.{eqb}
 use lib.ListN.{get_or, set}
 use borrow.Author.Tests.{eq-eqb}
+use Rattle.std.specs.Prelude.{Option, Some, None}
 use Rattle.bitset.specs.Set.{picked}
 use Rattle.bitset.specs.Inner.Words.{has, without, members}
+use Rattle.bitset.specs.Inner.Emptying.{next_among, next_of, IsFirst}
+use Rattle.bitset.specs.declared.Bits.{Bits}
 use Rattle.bitset.proofs.Digits.{bit_zero, trailing_clear, lowest}
 use Rattle.bitset.proofs.Picked.{picked_same, picked_none, picked_first, picks, picked_out}
 use Rattle.bitset.proofs.Set.{has_without}
@@ -72,3 +75,33 @@ first_found ws i t l z p h e =
 pub first_none : (ws : List ℕ) → ((k : ℕ) → k < 5 → get_or ws k 0 ≡ 0) → members ws ≡ []
 unfolding members
 first_none ws z = picked_none (has ws) 0 320 (λ p a u. rw (z (p / 64) (omega arith), bit_zero (p % 64)))
+
+-- ---- what emptying from the lowest bit gives
+
+module _ (b : Bits) where
+  among_first : (l : List ℕ) → members b.words ≡ l → IsFirst b (next_among b l)
+  among_first [] e = e
+  among_first (p ∷ ps) e =
+      (e ∙ ap (λ (r : List ℕ). p ∷ r) (sym (members_without b.words p [] ps e)), refl, (place_in b.words p [] ps e).0)
+
+  next_first : IsFirst b (next_of b)
+  unfolding next_of
+  next_first = among_first (members b.words) refl
+
+  given : (r : Option (ℕ × Bits)) → next_of b ≡ r → IsFirst b r
+  given r e = subst (IsFirst b) e next_first
+
+  pub next_step : (f : ℕ × Bits) → next_of b ≡ Some f → members b.words ≡ f.0 ∷ members f.1.words
+  next_step f e = (given (Some f) e).0
+
+  pub next_end : next_of b ≡ None → members b.words ≡ []
+  next_end e = given None e
+
+  pub next_below : (f : ℕ × Bits) → next_of b ≡ Some f → f.0 < 320
+  next_below f e = (given (Some f) e).2
+
+  -- the first is what `next_of` gives
+  pub first_next : (r : Option (ℕ × Bits)) → IsFirst b r → (r ≡ next_of b) × IsFirst b r
+  unfolding next_of
+  first_next None h = (sym (ap (next_among b) h), h)
+  first_next (Some f) h = (ap (λ (ws : List ℕ). Some (f.0, record { words = ws })) h.1 ∙ sym (ap (next_among b) h.0), h)

@@ -9,9 +9,9 @@ use lib.Count.{count_trailing_zeros}
 use lib.ListN.{length, get_or, set}
 use borrow.Author.Count.{below_more}
 use Rattle.bitset.specs.Inner.Words.{without}
-use Rattle.bitset.specs.Inner.Emptying.{IsFirst}
+use Rattle.bitset.specs.Inner.Emptying.{next_of, IsFirst}
 use Rattle.bitset.specs.declared.Bits.{Bits}
-use Rattle.bitset.proofs.Emptying.{first_found}
+use Rattle.bitset.proofs.Emptying.{first_found, first_next}
 
 -- the words one by one
 abbrev pub five_of : List ℕ → List ℕ
@@ -70,9 +70,9 @@ zeros_more ws i z h = below_more _ _ z (omega arith)
 pub found_word : (b : Bits) (i v : ℕ) (r : ℕ × Bits) → length b.words ≡ 5 → i < 5 → Zeros b.words i → 0 < get_or b.words i 0
     → get_or b.words i 0 < 2 ^ 64 → v ≡ get_or b.words i 0 - 2 ^ count_trailing_zeros 64 (get_or b.words i 0)
     → r.0 ≡ 64 * i + count_trailing_zeros 64 (get_or b.words i 0) → r.1.words ≡ set (five_of b.words) i v
-    → IsFirst b (Some r)
+    → (Some r ≡ next_of b) × IsFirst b (Some r)
 found_word b i v r l h z p f ev et ew =
     let s = first_found b.words i _ h z p f refl in
     let e : r.1.words ≡ without b.words r.0 =
     ew ∙ ap (λ us. set us i v) (five b.words l) ∙ ap (set b.words i) ev ∙ rw et (sym s.1) in
-    (rw (e, et) s.0, e, rw et s.2)
+    first_next b (Some r) (rw (e, et) s.0, e, rw et s.2)

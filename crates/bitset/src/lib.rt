@@ -5,7 +5,7 @@ ghost use Rattle.std.specs.Prelude.{◌≡◌, true, false, ℕ, [], ◌∷◌, 
 ghost use Rattle.std.specs.Int.Count.{count_trailing_zeros};
 ghost use Rattle.std.specs.Int.Count as Count;
 ghost use Rattle.bitset.specs.Inner.Words.{has, empty_words, insert_in, without, members};
-ghost use Rattle.bitset.specs.Inner.Emptying.{IsFirst};
+ghost use Rattle.bitset.specs.Inner.Emptying.{next_of, IsFirst};
 
 // Places 0 to 319: place p is bit p mod 64 of word p div 64.
 #[derive(Clone, Copy)]
@@ -126,7 +126,7 @@ impl Bits {
 
     // The lowest place, and the set without it.
     pub fn split_first(self) -> Option<(usize, Bits)>
-        ensures { IsFirst self result }
+        ensures { (result ≡ next_of self) × IsFirst self result }
     {
         let [a, b, c, d, e] = self.words;
         if 0 < a {

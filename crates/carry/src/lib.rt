@@ -111,7 +111,7 @@ fn carry_slot(to: &mut [u8], nand: &[u8], slots: u64, n: u32, form: Form)
 {
     let slot = flash::slot_of(n, slots);
     let a = slot * flash::SLOT_BYTES;
-    codec::copy(to, a, &nand[a..a + KEPT_BYTES]);
+    codec::copy_long(to, a, &nand[a..a + KEPT_BYTES]);
     let h = flash::pages_of(nand, slot, Page(flash::HEADER_LAST), 1);
     let d = carried_header(h, form, n);
     flash::program(to, slot, Page(flash::HEADER_LAST), d);
@@ -137,7 +137,7 @@ fn carry_open(to: &mut [u8], nand: &[u8], slots: u64, current: u32)
     flash::erase_chip(to);
     let slot = flash::slot_of(current, slots);
     let a = slot * flash::SLOT_BYTES;
-    codec::copy(to, a, &nand[a..a + flash::SLOT_BYTES]);
+    codec::copy_long(to, a, &nand[a..a + flash::SLOT_BYTES]);
 }
 
 pub fn carry_nand(to: &mut [u8], nand: &[u8], s: Serials, form: Form)

@@ -1,4 +1,4 @@
--- The turns of the loops of `get`, `put` and `all_ones`, and the runs that these lend out. Assumes nothing.
+-- The turns of the loops of `get`, `put`, `copy_long` and `all_ones`, and the runs that these lend out. Assumes nothing.
 use mathlib.Core.Path.{◌≡◌, refl, sym, ◌∙◌}
 use mathlib.Core.Bool.{Bool, true, false, ◌&&◌}
 use mathlib.Core.List.{List, [], append_assoc}
@@ -9,7 +9,7 @@ use native.Mathlib.Omega.{arith}
 use lib.Dec.{eqb}
 use borrow.Rule.Slice.PartMut.{put_mid, Post-is}
 use lib.ListN.{length, take, drop, get_or, set}
-use lib.Seq.{sets, sets-eq, drop-cons}
+use lib.Seq.{sets, sets-eq, drop-cons, paste, take_all}
 use Rattle.std.proofs.lemmas.List.{append-nil, drop_all}
 use Rattle.codec.specs.Area.{part, splice, all_ones}
 use Rattle.codec.specs.Number.{le, bytes, number_at}
@@ -68,6 +68,14 @@ put_step s to (suc k) rest h =
 pub sets_done : (s : List ℕ) (at n : ℕ) (p : List ℕ) → length p ≡ n → at + n ≤ length s → sets s at p ≡ splice s at p
 unfolding splice
 sets_done s at n p l h = sets-eq p s at (omega arith)
+
+-- ---- copy_long
+
+pub copy_done : (s : List ℕ) (at : ℕ) (p : List ℕ) (i : ℕ) → length p ≡ i → paste s at p i ≡ splice s at p
+unfolding splice
+copy_done s at p i e =
+    let a : take i p ≡ p = take_all i p (omega arith) in
+    rw (a, ← e)
 
 -- ---- all_ones
 

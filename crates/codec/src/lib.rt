@@ -94,6 +94,17 @@ pub fn copy(s: &mut [u8], at: usize, src: &[u8])
     s[at..at + src.len()].copy_from_slice(src);
 }
 
+// The same of pages and more, byte by byte: the compiler makes wide moves of it. `copy_from_slice` would ask for memmove, which no
+// archive for C needs from outside otherwise.
+pub fn copy_long(s: &mut [u8], at: usize, src: &[u8])
+    requires { at + length src.now ≤ length s.old }
+    ensures { s.new ≡ splice s.old at src.now }
+{
+    for (i, b) in src.iter().enumerate() {
+        s[at + i] = *b;
+    }
+}
+
 // The n bytes from `at` become v.
 pub fn fill(s: &mut [u8], at: usize, n: usize, v: u8)
     requires { at + n ≤ length s.old }

@@ -1,18 +1,28 @@
 // One call on the store and on the list, and what they answer compared.
 #![tactic(auto)]
 
+ghost use Rattle.std.specs.Prelude.{◌≡◌};
+
 use dice::calls::{Area, Call, Drawn};
 use lift::RECORD_BYTES;
 use plain_list::{Ground, Lift, PlainLog, Query};
 use plate::PLATES;
+use store::State;
 use trial_calls::Store;
 
 // Eight serials of 320 lifts.
 const AREA_BYTES: usize = 81920;
 
+// The store's state and the list, as they stand between two calls.
+#[derive(Clone, Copy)]
+pub struct Pair {
+    pub state: State,
+    pub log: PlainLog,
+}
+
 // The store, and the list on its sheet.
 #[derive(Drop)]
-pub struct Pair<'a> {
+pub struct Sides<'a> {
     pub store: Store<'a>,
     pub log: PlainLog,
     pub sheet: &'a mut [Lift],
@@ -65,20 +75,30 @@ fn record(lift: Lift, number: u64) -> [u8; RECORD_BYTES] {
     record
 }
 
-impl<'a> Pair<'a> {
+impl<'a> Sides<'a> {
     pub fn new(
         nand: &'a mut [u8],
         nor: &'a mut [u8],
         sheet: &'a mut [Lift],
         slots: u64,
-    ) -> Pair<'a> {
+    ) -> Sides<'a> {
         let store = Store::new(nand, nor);
         let log = PlainLog::new(slots);
-        Pair { store, log, sheet }
+        Sides { store, log, sheet }
     }
 }
 
-impl Pair<'_> {
+impl Sides<'_> {
+    // Both sides as they stand.
+    pub fn pair(&self) -> Pair
+        ensures { (result.state ≡ self.now.store.state) × (result.log ≡ self.now.log) }
+    {
+        Pair {
+            state: self.store.state,
+            log: self.log,
+        }
+    }
+
     // The state's serials, count, buckets and next time are the list's.
     fn agrees(&self) -> bool {
         let state = &self.store.state;

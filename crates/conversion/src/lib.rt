@@ -53,11 +53,10 @@ fn first_grounds(
         oldest: s.oldest,
         current: s.current,
     };
-    let is_damaged = retained::headers::any_damaged(nand, c, from);
     if retained::headers::any_of_form(nand, c, form) {
         return Err(Ground::OtherForm);
     }
-    if is_damaged {
+    if retained::headers::any_damaged(nand, c, from) {
         return Err(Ground::Damage);
     }
     Ok(())
@@ -125,7 +124,7 @@ fn carry_chips(
         current: s.current,
     };
     carry::carry_nand(to_nand, nand, c, form);
-    codec::copy(to_nor, 0, nor);
+    codec::copy_long(to_nor, 0, nor);
 }
 
 // Form 0 into form 1.

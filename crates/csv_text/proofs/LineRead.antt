@@ -1,10 +1,12 @@
 -- The line from a place on, by the three fields that are read there: a record where all three are, none where one is not. The idea: the
 -- grammar's record would have been read, field after field. Assumes nothing.
+use Rattle.std.specs.Prelude.{Option as Maybe, Some, None, MatchOption}
 use mathlib.Core.Path.{◌≡◌, refl, sym, ap, ◌∙◌}
 use mathlib.Core.Bool.{true, false, false≢true}
 use mathlib.Core.Option.{Option, none, some}
 use mathlib.Core.List.{List, [], ◌∷◌, ◌++◌, append_assoc}
 use Prim.Native.Nat.{ℕ, ◌≤◌, ◌<◌}
+use native.Mathlib.Decide.{dec_lt}
 use native.Mathlib.Omega.{arith}
 use borrow.Author.Tests.{eqb-true}
 use lib.Dec.{eqb}
@@ -108,3 +110,35 @@ module _ (text : List ℕ) (at : ℕ) where
                   further = omega (arith, rt.further, ct.further, rk.further, ck.further, rm.further, p.from);
                   inside = p.inside;
                 }
+
+-- ---- the line by its three fields, each read or not
+
+module _ (text : List ℕ) (at : ℕ) where
+  -- no time, or no comma behind it
+  pub bad_first : (o : Maybe Field) → MatchOption o (NoField false text at) (λ t. FieldRead false text at t × NoComma text t.end)
+      → first_record (lines_of (drop at text)) ≡ none
+  bad_first None n = no_time text at n
+  bad_first (Some t) r = no_first_comma text at r.0 r.1
+
+  module _ {t : Field} (rt : FieldRead false text at t) {second : ℕ} (ct : CommaPassed text t.end second) where
+    -- no load, or no comma behind it
+    pub bad_second : (o : Maybe Field) → MatchOption o (NoField true text second) (λ k. FieldRead true text second k × NoComma text k.end)
+        → first_record (lines_of (drop at text)) ≡ none
+    bad_second None n = no_load text at rt ct n
+    bad_second (Some k) r = no_second_comma text at rt ct r.0 r.1
+
+    module _ {k : Field} (rk : FieldRead true text second k) {third : ℕ} (ck : CommaPassed text k.end third) where
+      -- no member, one that is too large, or no end behind it
+      pub bad_third : (o : Maybe Field) → MatchOption o (NoField false text third)
+          (λ m. FieldRead false text third m × (m.value ≤ member_most → ends (drop m.end text) ≡ false))
+          → first_record (lines_of (drop at text)) ≡ none
+      bad_third None n = no_member text at rt ct rk ck n
+      bad_third (Some m) r = go (dec_lt member_most m.value)
+        where
+          go : Dec (member_most < m.value) → first_record (lines_of (drop at text)) ≡ none
+          go (yes h) = too_large text at rt ct rk ck r.0 h
+          go (no f) = no_end text at rt ct rk ck r.0 (r.1 (omega arith))
+
+      pub good_line : {m : Field} → FieldRead false text third m → m.value ≤ member_most → (next : ℕ) → EndPassed text m.end next
+          → LineRead text at (record { time = t.value; load = load_said k.minus k.value; member = m.value; next = next })
+      good_line rm small next p = line_read text at rt ct rk ck rm next p small

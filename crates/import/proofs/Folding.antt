@@ -1,7 +1,8 @@
 -- An import line by line, whatever a store is: what is left to import gives what the whole does. Assumes nothing.
+use Rattle.std.specs.Prelude.{Option as Maybe, Some, None, MatchOption}
 use mathlib.Core.Path.{◌≡◌, refl, sym, ap, ◌∙◌}
 use mathlib.Core.Bool.{Bool, true, false, cond, ◌&&◌}
-use mathlib.Core.Option.{none}
+use mathlib.Core.Option.{Option, none, some}
 use mathlib.Core.List.{List, [], ◌∷◌}
 use Prim.Native.Nat.{ℕ, suc, ◌+◌, ◌≤◌, ◌<◌}
 use native.Mathlib.Decide.{ℕ_discrete}
@@ -16,7 +17,7 @@ use Rattle.csv_text.specs.declared.Line.{Line}
 use Rattle.csv_text.specs.Grammar.{onto_first, lines_of, has_heading, after_first}
 use Rattle.csv_text.specs.Inner.Reading.{first_record, told_by, LineRead, HeadingRead}
 use Rattle.import.specs.Fold.{Imported, bad_form, line_number, line_after, import_lines, import_text}
-use Rattle.import.specs.Inner.Lines.{imported}
+use Rattle.import.specs.Inner.Lines.{told_or, imported}
 
 -- ---- the lines of a text
 
@@ -42,6 +43,12 @@ lines_there text at h e = lines_some (get_or text at 0) (drop (suc at) text) (ap
 lines_over : (text : List ℕ) (at : ℕ) → length text ≡ at → lines_of (drop at text) ≡ []
 unfolding lines_of
 lines_over text at e = rw (← e, drop-length text)
+
+-- what is read of a line is its record
+told_read : (text : List ℕ) (at : ℕ) (o : Maybe Line) → MatchOption o (first_record (lines_of (drop at text)) ≡ none) (LineRead text at)
+    → first_record (lines_of (drop at text)) ≡ told_or o
+told_read text at None r = r
+told_read text at (Some l) r = r.says
 
 -- ---- line by line
 
@@ -79,6 +86,11 @@ module _ {X : Type 0} (before : X → ℕ) (number : X → Told → ℕ) (after 
       unfolding import_lines
       all_in h = sym (rw (lines_over text at (omega (arith, i.inside)))) ∙ i.leads
 
+      line_kept : (o : Option Told) → ((r : Told) → (number x r ≡ 0 → ⊥) → after x r ≡ x)
+          → (line_number before number after x o ≡ 0 → ⊥) → line_after before number after x o ≡ x
+      line_kept none keeps f = refl
+      line_kept (some r) keeps f = keeps r f
+
       module _ (more : at < length text) where
         -- the first line from here ends it, by its number
         ends_so : (n : ℕ) → n ≡ line_number before number after x (first_record (lines_of (drop at text))) → (n ≡ 0 → ⊥)
@@ -90,15 +102,19 @@ module _ {X : Type 0} (before : X → ℕ) (number : X → Told → ℕ) (after 
             → imported n line x ≡ whole
         bad_here e n n_is = ends_so n (rw e n_is) (λ z. bad_some x (sym n_is ∙ z))
 
+        -- a line is read, n is its number and y the store after it
+        module _ (o : Maybe Line) (r : MatchOption o (first_record (lines_of (drop at text)) ≡ none) (LineRead text at)) (n : ℕ) (y : X)
+            (n_is : n ≡ line_number before number after x (told_or o)) (y_is : y ≡ line_after before number after x (told_or o)) where
+          -- "only earlier ones remain": a refused append leaves the store as it was
+          pub ends_here : ((r : Told) → (number x r ≡ 0 → ⊥) → after x r ≡ x) → (n ≡ 0 → ⊥) → imported n line y ≡ whole
+          ends_here keeps f =
+              ap (λ (z : X). imported n line z) (y_is ∙ line_kept (told_or o) keeps (λ e. f (n_is ∙ e)))
+              ∙ ends_so n (n_is ∙ ap (line_number before number after x) (sym (told_read text at o r))) f
+
         -- a record is read, n is the number of its append and y the store after it
         module _ (l : Line) (r : LineRead text at l) (n : ℕ) (y : X) (n_is : n ≡ number x (told_by l)) (y_is : y ≡ after x (told_by l)) where
           number_is : n ≡ line_number before number after x (first_record (lines_of (drop at text)))
           number_is = n_is ∙ ap (line_number before number after x) (sym r.says)
-
-          -- "only earlier ones remain": a refused append leaves the store as it was
-          pub ends_here : ((r : Told) → (number x r ≡ 0 → ⊥) → after x r ≡ x) → (n ≡ 0 → ⊥) → imported n line y ≡ whole
-          ends_here keeps f =
-              ap (λ (z : X). imported n line z) (y_is ∙ keeps (told_by l) (λ e. f (n_is ∙ e))) ∙ ends_so n number_is f
 
           pub goes_in : n ≡ 0 → Imports whole l.next (line + 1) y
           goes_in z =

@@ -87,7 +87,12 @@ fn import_lines(
         };
         match append_line(state, nand, nor, slots, l) {
             Ok(next) => state = next,
-            Err(ground) => return stopped(ground, line, state),
+            Err(ground) => {
+                let is_refused = ground.number() != 0;
+                if is_refused {
+                    return stopped(ground, line, state);
+                }
+            }
         }
         at = l.next;
         line += 1;

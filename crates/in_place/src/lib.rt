@@ -63,7 +63,7 @@ fn flush_page(b: &mut [u8], nand: &mut [u8], slot: usize, count: u16)
         return;
     }
     let to = flash::page_at(slot, Page(n / lift::LIFTS_PER_PAGE));
-    codec::copy(nand, to, &b[pieces::PAGE_AT..pieces::BLOOM_AT]);
+    codec::copy_long(nand, to, &b[pieces::PAGE_AT..pieces::BLOOM_AT]);
     codec::fill(b, pieces::PAGE_AT, flash::PAGE_BYTES, 255);
 }
 

@@ -97,7 +97,7 @@ impl PlainLog {
         if LAST_SERIAL <= self.current {
             return Err(Ground::Serial);
         }
-        let log = if self.closes_first(code) {
+        let log = if self.closes_first(u64::from(code)) {
             self.closed()
         } else {
             self
@@ -105,9 +105,10 @@ impl PlainLog {
         Ok(log.with_lift(sheet, time, code))
     }
 
-    // "if open serial n has 320 lifts, or its loads and then the new one need bucket 36"
-    fn closes_first(&self, code: u32) -> bool {
-        self.count == LIFTS_PER_SERIAL || self.tree.needs_more(code)
+    // Whether an append of this stored load closes the open serial first: "if open serial n has 320 lifts, or its loads and then the new
+    // one need bucket 36". A load above the limit goes as the highest one.
+    pub fn closes_first(&self, code: u64) -> bool {
+        self.count == LIFTS_PER_SERIAL || self.tree.needs_more(code.min(CODE_MAX) as u32)
     }
 
     // "The lift goes last into the open serial, m; m − S goes, if held."

@@ -1,14 +1,15 @@
 -- The ends of a stack's bands (document 02, W-205 and W-206): each is the sum above the next plate and half of it, the last the full sum
 -- and half of the last plate; they rise strictly, and one run down the stack gives them all. Assumes nothing.
-use mathlib.Core.Path.{◌≡◌, refl, sym, ap, subst}
-use mathlib.Core.Bool.{true, ◌&&◌}
+use mathlib.Core.Path.{◌≡◌, refl, sym, ap, subst, ◌∙◌}
+use mathlib.Core.Bool.{Bool, true, ◌&&◌}
 use mathlib.Core.List.{List, [], ◌∷◌, ◌++◌, map, append_assoc}
 use Prim.Native.Nat.{ℕ, zero, suc, ◌+◌, ◌-◌, ◌*◌, ◌/◌, ◌≤◌, ◌<◌}
 use native.Mathlib.Omega.{arith}
 use native.Mathlib.Decide.{dec_lt}
 use borrow.Author.Tests.{leb-true, eq-eqb, ne_eqb}
 use lib.Dec.{leb}
-use lib.ListN.{length, get_or, length-append, replicate, length-replicate, get_or-replicate}
+use denote.Bor.{Bor}
+use lib.ListN.{length, get_or, get_or-map, length-append, replicate, length-replicate, get_or-replicate}
 use Rattle.codec.proofs.Truth.{and_left, and_right}
 use Rattle.plate.specs.Total.{total}
 use Rattle.plate.specs.Stack.{is_plate, all_plates, is_stack, sum_down_to, last_end, end_of, ends_from, ends_of}
@@ -136,6 +137,39 @@ tables_of tables stacks e n h = rw e (go stacks n h)
     go [] n h = absurd (omega arith)
     go (stack ∷ stacks) zero h = sym (ends_running stack)
     go (stack ∷ stacks) (suc n) h = go stacks n (omega arith)
+
+-- of tables that are lent, what is lent at a place is the place of what is lent
+pub lent_at : (tables : List (Bor (List ℕ))) (n : ℕ) (none : Bor (List ℕ))
+    → (get_or tables n none).now ≡ get_or (map (λ (table : Bor (List ℕ)). table.now) tables) n none.now
+lent_at tables n none = sym (get_or-map (λ (table : Bor (List ℕ)). table.now) tables n none)
+
+-- an end more than plates
+length_running : (sum above : ℕ) (stack : List ℕ) → length (running sum above stack) ≡ suc (length stack)
+unfolding running
+length_running sum above [] = refl
+length_running sum above (p ∷ stack) = ap suc (length_running (sum + p) p stack)
+
+-- all stacks of a list are within the sizes
+unfoldable pub all_stacks : List (List ℕ) → Bool
+all_stacks [] = true
+all_stacks (stack ∷ stacks) = is_stack stack && all_stacks stacks
+
+few_plates : (stack : List ℕ) → is_stack stack ≡ true → length stack ≤ 24
+unfolding is_stack
+few_plates stack h =
+    let sizes = and_left (leb 1 (length stack) && leb (length stack) 24) (all_plates stack) h in
+    leb-true (length stack) 24 (and_right (leb 1 (length stack)) (leb (length stack) 24) sizes)
+
+-- so there are at most 25 ends
+pub ends_most : (stacks : List (List ℕ)) → all_stacks stacks ≡ true → (n : ℕ) → n < length stacks
+    → length (ends_of (get_or stacks n [])) ≤ 25
+unfolding all_stacks
+ends_most [] a n h = absurd (omega arith)
+ends_most (stack ∷ stacks) a zero h =
+    let few = few_plates stack (and_left (is_stack stack) (all_stacks stacks) a) in
+    rw (ends_running stack, length_running 0 0 stack) (omega (arith, few))
+ends_most (stack ∷ stacks) a (suc n) h =
+    ends_most stacks (and_right (is_stack stack) (all_stacks stacks) a) n (omega arith)
 
 -- ---- equal plates
 

@@ -21,7 +21,7 @@ pub const FOUR_OF_250_OVER_16_OF_500: [u32; 21] = [
 ];
 
 // The tables in the order of the list.
-static TABLES: [[u32; 21]; 2] = [TWENTY_OF_500, FOUR_OF_250_OVER_16_OF_500];
+static TABLES: [&[u32]; 2] = [&TWENTY_OF_500, &FOUR_OF_250_OVER_16_OF_500];
 
 // How many stacks are carried.
 pub const CARRIED: u64 = 2;
@@ -42,11 +42,11 @@ fn plate_by(ends: &[u32], load: u32) -> u8
 }
 
 // Each table is the rule's.
-fn ends_at(place: usize) -> &'static [u32; 21]
+fn ends_at(place: usize) -> &'static [u32]
     requires { place < length carried }
     ensures { result.now ≡ ends_of (get_or carried place []) }
 {
-    &TABLES[place]
+    TABLES[place]
 }
 
 // The plate of a load as stored, on the stack at a place. No end lies below zero, so that a load there counts as zero.

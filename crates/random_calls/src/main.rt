@@ -5,7 +5,7 @@
 
 use call_counts::counts::Counts;
 use call_counts::{counts, print};
-use compared::Pair;
+use compared::Sides;
 use dice::{List, Loads};
 use plain_list::Lift;
 
@@ -22,22 +22,22 @@ const SHEET_LIFTS: usize = 2880;
 
 const CALLS_IN_LIST: u64 = 4000;
 
-fn list_of_calls(rt: &impl Print, pair: &mut Pair, slots: u64, list: List) -> Counts {
-    pair.begin(slots);
+fn list_of_calls(rt: &impl Print, sides: &mut Sides, slots: u64, list: List) -> Counts {
+    sides.begin(slots);
     let mut random = list.first_number(slots);
     let mut counts = Counts::default();
     for _ in 0..CALLS_IN_LIST {
-        counts = counts + one_call(rt, pair, list, random, counts);
+        counts = counts + one_call(rt, sides, list, random, counts);
         random = dice::later(random);
     }
     counts
 }
 
 // A call on both, and what is counted of it; the first difference of a line's calls is printed.
-fn one_call(rt: &impl Print, pair: &mut Pair, list: List, random: u64, counts: Counts) -> Counts {
-    let before = pair.log;
-    let drawn = dice::calls::pick(pair.sheet, &before, list, random);
-    let done = pair.call(drawn);
+fn one_call(rt: &impl Print, sides: &mut Sides, list: List, random: u64, counts: Counts) -> Counts {
+    let before = sides.pair().log;
+    let drawn = dice::calls::pick(sides.sheet, &before, list, random);
+    let done = sides.call(drawn);
     let differs = done.differs();
     if differs && counts.differences == 0 {
         print::difference(
@@ -48,7 +48,7 @@ fn one_call(rt: &impl Print, pair: &mut Pair, list: List, random: u64, counts: C
             done.found_number(),
         );
     }
-    counts::of_call(drawn.call, &before, &pair.log, done.expected, differs)
+    counts::of_call(drawn.call, &before, &sides.log, done.expected, differs)
 }
 
 // Two lists of one kind of loads, on one sheet, and their line.
@@ -60,10 +60,10 @@ fn kind_of_loads(
     loads: Loads,
 ) -> Counts {
     let mut sheet = [Lift::default(); SHEET_LIFTS];
-    let mut pair = Pair::new(nand, nor, &mut sheet, slots);
+    let mut sides = Sides::new(nand, nor, &mut sheet, slots);
     let mut counts = Counts::default();
     for second in [false, true] {
-        counts = counts + list_of_calls(rt, &mut pair, slots, List { loads, second });
+        counts = counts + list_of_calls(rt, &mut sides, slots, List { loads, second });
     }
     print::line(rt, slots, loads, &counts);
     counts

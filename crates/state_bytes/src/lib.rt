@@ -40,7 +40,8 @@ fn put_fields(b: &mut [u8], form: Form, s: State)
     pieces::put_around(b, form, c, s.heads, s.loads, s.bloom, span);
 }
 
-// The fields of both forms.
+// The fields of both forms. Inlined: as a call it would leave a second state on the stack of every call that reads one.
+#[inline(always)]
 fn fields_at(b: &[u8], form: Form) -> State
     requires { length b.now ≡ area_length form }
     ensures { result ≡ state_as form b.now }

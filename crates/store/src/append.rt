@@ -194,7 +194,12 @@ impl State {
         ensures { returned (number_in result) nand.new nor.new (next_state self result)
             ≡ append_outcome (world nand.old nor.old self) slots time load note }
     {
-        let p = pieces::plan_append(self, nand, nor, slots, time, load)?;
+        let planned = pieces::plan_append(self, nand, nor, slots, time, load);
+        let is_refused = grounds::number_in(&planned) != 0;
+        if is_refused {
+            return planned.and(Ok(self));
+        }
+        let p = planned?;
         Ok(pieces::carried_out(self, nand, nor, slots, time, load, note, p))
     }
 }

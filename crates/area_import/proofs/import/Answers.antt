@@ -3,7 +3,7 @@ use mathlib.Core.Path.{sym, ◌∙◌}
 use Rattle.store.specs.Inner.Pieces.{bounds_ground}
 use Rattle.grounds.proofs.Numbers.{refused}
 use Rattle.import.proofs.Folding.{text_refused, heading_bad, heading_good}
-use Rattle.areas.specs.Areas.{lent, lent_ground, import_in}
+use Rattle.areas.specs.Areas.{import_in}
 use Rattle.area_import.proofs.import.Goals as goal
 
 pub returns-in-Err : goal.returns-in-Err

@@ -1,8 +1,16 @@
 -- Document 01, "Search": a set is "emptied from the lowest bit up".
-use Rattle.std.specs.Prelude.{◌≡◌, ◌<◌, MatchOption, Option, List, [], ◌∷◌, ℕ}
+use Rattle.std.specs.Prelude.{◌≡◌, ◌<◌, MatchOption, Option, Some, None, List, [], ◌∷◌, ℕ}
 use Rattle.bitset.specs.Inner.Words.{members, without}
 use Rattle.bitset.specs.declared.Bits.{Bits}
 use Rattle.bitset.specs.declared.Places.{Places}
+
+-- by the set's places: none, or the lowest with the set without it
+abbrev pub next_among : Bits → List ℕ → Option (ℕ × Bits)
+next_among b [] = None
+next_among b (p ∷ ps) = Some (p, record { words = without b.words p })
+
+unfoldable pub next_of : Bits → Option (ℕ × Bits)
+next_of b = next_among b (members b.words)
 
 -- none where the set is empty, or the lowest place and the set without it
 abbrev pub IsFirst : Bits → Option (ℕ × Bits) → Type 0

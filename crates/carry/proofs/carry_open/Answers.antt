@@ -8,4 +8,4 @@ use Rattle.carry.proofs.carry_open.Goals as goal
 pub returns : goal.returns
 returns c =
     open_put c.args.nand.now c.args.to.now _ _ _ c.args.slots c.args.current _ (omega (arith, c.requires))
-    c.slot_of-slot.ensures.0 c.erase_chip.ensures (part_from _ _ _ _ refl) c.copy.ensures
+    c.slot_of-slot.ensures.0 c.erase_chip.ensures (part_from _ _ _ _ refl) c.copy_long.ensures

@@ -14,4 +14,4 @@ pub returns : goal.returns
 returns c =
     let slot = c.slot_of-slot.ensures.0 in
     slot_put c.args.form c.args.nand.now c.args.to.now c.args.slots c.args.n c.requires.2 c.requires.0 c.requires.1 _ _ _ _ _ _
-    slot c.carried_header-d.ensures c.pages_of-h.ensures (part_from _ _ _ _ refl) c.copy.ensures c.program.ensures
+    slot c.carried_header-d.ensures c.pages_of-h.ensures (part_from _ _ _ _ refl) c.copy_long.ensures c.program.ensures

@@ -7,4 +7,4 @@ use Rattle.conversion.proofs.carry_chips.Goals as goal
 pub returns : goal.returns
 unfolding nand_into
 returns c =
-    (c.carry_nand.ensures, c.copy.ensures ∙ splice_all _ _ c.requires.5)
+    (c.carry_nand.ensures, c.copy_long.ensures ∙ splice_all _ _ c.requires.5)

@@ -45,8 +45,8 @@ returns-then-any_of_form c =
     by_form a.form a.s a.live a.nand.now a.nor a.slots a.to_nand a.to_nor _ c.in_ok-lengths_ground.ensures refl _ judged refl _
     c.any_of_form.ensures c.if-any_of_form.true
 
-pub any_damaged-is_damaged-requires : goal.any_damaged-is_damaged-requires
-any_damaged-is_damaged-requires c =
+pub any_damaged-requires : goal.any_damaged-requires
+any_damaged-requires c =
     let judged : let a = c.args in
     0 ≡ bounds_ground (other a.form) a.s a.live (length a.nand.now) a.nor a.slots = let a = c.args in
     c.in_ok-ground.ensures ∙ ap (λ v. bounds_ground v a.s a.live (length a.nand.now) a.nor a.slots) c.other-from.ensures in
@@ -55,17 +55,17 @@ any_damaged-is_damaged-requires c =
     within_ground a.form a.s a.live a.nand.now a.nor a.slots a.to_nand a.to_nor _ c.in_ok-lengths_ground.ensures refl _ judged refl in
     looks
 
-pub returns-then-is_damaged : goal.returns-then-is_damaged
-returns-then-is_damaged c =
+pub returns-then-any_damaged : goal.returns-then-any_damaged
+returns-then-any_damaged c =
     let judged : let a = c.args in
     0 ≡ bounds_ground (other a.form) a.s a.live (length a.nand.now) a.nor a.slots = let a = c.args in
     c.in_ok-ground.ensures ∙ ap (λ v. bounds_ground v a.s a.live (length a.nand.now) a.nor a.slots) c.other-from.ensures in
     let damage : let a = c.args in
-    c.any_damaged-is_damaged.result ≡ any_header (is_damaged (other a.form) a.slots a.s.current) (serials_of a.s a.slots) a.nand.now = let a = c.args in
-    c.any_damaged-is_damaged.ensures ∙ ap (λ v. any_header (is_damaged v a.slots a.s.current) (serials_of a.s a.slots) a.nand.now) c.other-from.ensures in
+    c.any_damaged.result ≡ any_header (is_damaged (other a.form) a.slots a.s.current) (serials_of a.s a.slots) a.nand.now = let a = c.args in
+    c.any_damaged.ensures ∙ ap (λ v. any_header (is_damaged v a.slots a.s.current) (serials_of a.s a.slots) a.nand.now) c.other-from.ensures in
     let a = c.args in
     by_damage a.form a.s a.live a.nand.now a.nor a.slots a.to_nand a.to_nor _ c.in_ok-lengths_ground.ensures refl _ judged refl _ _
-    c.any_of_form.ensures c.if-any_of_form.false damage c.if-is_damaged.true
+    c.any_of_form.ensures c.if-any_of_form.false damage c.if-any_damaged.true
 
 pub returns : goal.returns
 returns c =
@@ -73,8 +73,8 @@ returns c =
     0 ≡ bounds_ground (other a.form) a.s a.live (length a.nand.now) a.nor a.slots = let a = c.args in
     c.in_ok-ground.ensures ∙ ap (λ v. bounds_ground v a.s a.live (length a.nand.now) a.nor a.slots) c.other-from.ensures in
     let damage : let a = c.args in
-    c.any_damaged-is_damaged.result ≡ any_header (is_damaged (other a.form) a.slots a.s.current) (serials_of a.s a.slots) a.nand.now = let a = c.args in
-    c.any_damaged-is_damaged.ensures ∙ ap (λ v. any_header (is_damaged v a.slots a.s.current) (serials_of a.s a.slots) a.nand.now) c.other-from.ensures in
+    c.any_damaged.result ≡ any_header (is_damaged (other a.form) a.slots a.s.current) (serials_of a.s a.slots) a.nand.now = let a = c.args in
+    c.any_damaged.ensures ∙ ap (λ v. any_header (is_damaged v a.slots a.s.current) (serials_of a.s a.slots) a.nand.now) c.other-from.ensures in
     let a = c.args in
     by_none a.form a.s a.live a.nand.now a.nor a.slots a.to_nand a.to_nor _ c.in_ok-lengths_ground.ensures refl _ judged refl _ _
-    c.any_of_form.ensures c.if-any_of_form.false damage c.if-is_damaged.false
+    c.any_of_form.ensures c.if-any_of_form.false damage c.if-any_damaged.false

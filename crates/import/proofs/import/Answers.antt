@@ -1,8 +1,6 @@
 -- `import` meets its contract: a ground from 1 to 3, a bad header, or the lines behind it.
 use mathlib.Core.Path.{sym, ◌∙◌}
 use Rattle.grounds.proofs.Numbers.{refused}
-use Rattle.store.specs.World.{world}
-use Rattle.store.specs.Calls.{state_ground}
 use Rattle.store.specs.Inner.Pieces.{bounds_ground}
 use Rattle.import.specs.Call.{import_outcome}
 use Rattle.import.proofs.Folding.{text_refused, heading_bad, heading_good}

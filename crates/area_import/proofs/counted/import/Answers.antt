@@ -2,7 +2,7 @@
 use mathlib.Core.Path.{sym, ◌∙◌}
 use Rattle.grounds.proofs.Numbers.{refused}
 use Rattle.import.proofs.Folding.{text_refused, heading_bad, heading_good}
-use Rattle.areas.specs.Areas.{lent_kept, kept_ground, import_kept_in}
+use Rattle.areas.specs.Areas.{import_kept_in}
 use Rattle.area_import.proofs.counted.import.Goals as goal
 
 pub returns-in-Err : goal.returns-in-Err

@@ -1,4 +1,5 @@
 -- `area_import::counted::import_lines` meets its contract: what is left to import gives what the whole does.
+use Rattle.std.specs.Prelude.{Some}
 use mathlib.Core.Path.{refl, ap, ◌∙◌}
 use Prim.Native.Nat.{◌^◌, ◌<◌}
 use native.Mathlib.Omega.{arith}
@@ -27,7 +28,7 @@ returns-in_default c =
 pub returns-in-Err : goal.returns-in-Err
 returns-in-Err c =
     let e = c.in-Err.ensures in
-    ends_here _ _ _ _ _ _ _ _ c.loop-at.invariant.0 c.loop-at-test.true _ c.in-Some.ensures _ _
+    ends_here _ _ _ _ _ _ _ _ c.loop-at.invariant.0 c.loop-at-test.true (Some _) c.in-Some.ensures _ _
     (ap (λ (o : LeftKept). o.number) e) (ap left e) (λ t f. append_kept_in_keeps _ _ t f) (refused c.in-Err.ground)
 
 pub overflow_add-line : goal.overflow_add-line

@@ -1,9 +1,10 @@
 -- `split_first`: the first word that is not 0 has the lowest place, by its trailing zeros; the words passed are 0.
 use mathlib.Core.Path.{◌≡◌}
+use Rattle.std.specs.Prelude.{None}
 use lib.ListN.{length, get_or}
 use mir.Syntax.{w64}
 use mir.Val.{Fits}
-use Rattle.bitset.proofs.Emptying.{first_none}
+use Rattle.bitset.proofs.Emptying.{first_none, first_next}
 use Rattle.bitset.proofs.Words.{Zeros, zeros_none, zeros_more, found_word}
 use native.Mathlib.Omega.{arith}
 use borrow.Author.Rules.{rules}
@@ -67,4 +68,4 @@ returns c =
     let z3 : Zeros b.words 3 = zeros_more b.words 2 z2 c.if-c-gt0.false in
     let z4 : Zeros b.words 4 = zeros_more b.words 3 z3 c.if-d-gt0.false in
     let z5 : Zeros b.words 5 = zeros_more b.words 4 z4 c.if-e-gt0.false in
-    first_none b.words z5
+    first_next b None (first_none b.words z5)

@@ -1,9 +1,7 @@
 -- `import::counted::import` meets its contract: a ground from 1 to 3, a bad header, or the lines behind it.
 use mathlib.Core.Path.{sym, ◌∙◌}
 use Rattle.grounds.proofs.Numbers.{refused}
-use Rattle.store.specs.World.{world}
-use Rattle.keeping.specs.Keeping.{store}
-use Rattle.import.specs.Call.{ground_kept, import_kept}
+use Rattle.import.specs.Call.{import_kept}
 use Rattle.import.proofs.Folding.{text_refused, heading_bad, heading_good}
 use Rattle.import.proofs.counted.import.Goals as goal
 

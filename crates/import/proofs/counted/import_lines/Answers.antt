@@ -1,11 +1,11 @@
 -- `import::counted::import_lines` meets its contract: what is left to import gives what the whole does.
+use Rattle.std.specs.Prelude.{Some}
 use mathlib.Core.Path.{refl, ap, ◌∙◌}
 use Prim.Native.Nat.{◌^◌, ◌<◌}
 use native.Mathlib.Omega.{arith}
 use lib.ListN.{length}
 use Rattle.grounds.proofs.Numbers.{refused}
-use Rattle.store.specs.World.{world}
-use Rattle.keeping.specs.Keeping.{store, Counted}
+use Rattle.keeping.specs.Keeping.{Counted}
 use Rattle.import.specs.Call.{store_of}
 use Rattle.import.proofs.Folding.{begins, all_in, bad_here, ends_here, goes_in}
 use Rattle.import.proofs.Appends.{kept_append_keeps}
@@ -25,7 +25,7 @@ pub returns-in-Err : goal.returns-in-Err
 returns-in-Err c =
     let e = c.in-Err.ensures in
     rw c.stopped-in-Err.ensures
-    (ends_here _ _ _ _ _ _ _ _ c.loop-at.invariant.0 c.loop-at-test.true _ c.in-Some.ensures _ _
+    (ends_here _ _ _ _ _ _ _ _ c.loop-at.invariant.0 c.loop-at-test.true (Some _) c.in-Some.ensures _ _
     (ap (λ (o : Counted). o.number) e) (ap (λ (o : Counted). store_of o) e) (λ t f. kept_append_keeps _ _ _ _ _ f) (refused c.in-Err.ground))
 
 pub overflow_add-line : goal.overflow_add-line
